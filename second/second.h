@@ -1,0 +1,62 @@
+#ifndef SECOND_H
+#define SECOND_H
+
+/* Waves along one closed channel, after the rule's document, in whole numbers.
+   Lengths are in µm but for h and X (mm); T is in ms. */
+
+#include <stddef.h>
+#include <stdint.h>
+
+enum {
+    SECOND_CELLS = 256,  /* most cells of a channel */
+    SECOND_FILE = 16408, /* longest channel file, in bytes */
+    SECOND_LINE = 64     /* room for the printed line and its closing 0 */
+};
+
+/* A lent row and its length. */
+struct second_row {
+    int64_t *at;
+    size_t len;
+};
+
+/* A lent row that is only read. */
+struct second_read_row {
+    const int64_t *at;
+    size_t len;
+};
+
+struct second_channel {
+    uint64_t N, X, T, accepted, wanted;
+    struct second_row h, e, u, V; /* N each */
+    struct second_row Q;          /* 3(N-1): newest level, middle, oldest */
+    struct second_row F;          /* 3N: newest level, middle, oldest */
+};
+
+/* number 0: accepted, and count is the corrections of a step or the steps of
+   a run; otherwise the refusal's number and stage (a run's count stands). */
+struct second_answer {
+    unsigned number, stage;
+    uint64_t count;
+};
+
+/* Reads N, X, T, wanted, h, e, u; fills V, Q, F and sets accepted to 0. */
+struct second_answer second_make(struct second_channel *channel);
+
+/* One step, with the amount s poured into each cell. */
+struct second_answer second_step(struct second_channel *channel, struct second_read_row s);
+
+struct second_answer second_filter(struct second_channel *channel);
+
+/* Steps with nothing poured, until complete or refused. */
+struct second_answer second_run(struct second_channel *channel);
+
+/* Fills the counts and the lent rows from a channel file. */
+struct second_answer second_read(const uint8_t *bytes, size_t len, struct second_channel *channel);
+
+/* Writes the channel file; len must be 24 + 64N. */
+struct second_answer second_write(const struct second_channel *channel, uint8_t *bytes, size_t len);
+
+/* Writes the one printed line of a file, newline and closing 0 included. */
+struct second_answer second_print(const uint8_t *bytes, size_t len, char text[SECOND_LINE]);
+
+#endif

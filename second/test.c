@@ -1,0 +1,1060 @@
+/* Tests of the second program, against the marked cases of the rule and its
+   bounds. The inner functions are reached by taking in the source itself. */
+#include "second.c"
+
+#include <stdlib.h>
+
+static unsigned passed, failed;
+
+static void check(bool good, const char *what)
+{
+    if (good) {
+        passed++;
+    } else {
+        failed++;
+        printf("failed: %s\n", what);
+    }
+}
+
+static void check_number(int64_t got, int64_t due, const char *what)
+{
+    check(got == due, what);
+    if (got != due)
+        printf("  got %" PRId64 ", due %" PRId64 "\n", got, due);
+}
+
+static void check_answer(struct second_answer got, unsigned number, unsigned stage, uint64_t count,
+                         const char *what)
+{
+    bool good = got.number == number && got.stage == stage && got.count == count;
+    check(good, what);
+    if (!good)
+        printf("  got %u %u %" PRIu64 ", due %u %u %" PRIu64 "\n", got.number, got.stage,
+               got.count, number, stage, count);
+}
+
+static void check_row(const int64_t *got, const int64_t *due, size_t len, const char *what)
+{
+    check(memcmp(got, due, len * sizeof *got) == 0, what);
+}
+
+/* A channel with rows of its own, each between guards that nobody may touch. */
+enum { GUARD = 4 };
+struct rig {
+    struct second_channel c;
+    struct second_read_row s;
+    int64_t rows[7][3 * CELLS + 2 * GUARD];
+};
+
+enum { h_ROW, e_ROW, u_ROW, V_ROW, Q_ROW, F_ROW, s_ROW };
+
+/* Still water 1 m deep. */
+static void still(struct rig *rig, size_t N)
+{
+    memset(rig, 0x5a, sizeof *rig);
+    for (int i = 0; i < 7; i++)
+        memset(rig->rows[i] + GUARD, 0, 3 * CELLS * sizeof(int64_t));
+    for (size_t j = 0; j < N; j++)
+        rig->rows[h_ROW][GUARD + j] = 1000;
+    rig->c.N = N;
+    rig->c.X = 1000;
+    rig->c.T = 20;
+    rig->c.accepted = 0;
+    rig->c.wanted = 10;
+    rig->c.h = (struct second_row){rig->rows[h_ROW] + GUARD, N};
+    rig->c.e = (struct second_row){rig->rows[e_ROW] + GUARD, N};
+    rig->c.u = (struct second_row){rig->rows[u_ROW] + GUARD, N};
+    rig->c.V = (struct second_row){rig->rows[V_ROW] + GUARD, N};
+    rig->c.Q = (struct second_row){rig->rows[Q_ROW] + GUARD, 3 * (N - 1)};
+    rig->c.F = (struct second_row){rig->rows[F_ROW] + GUARD, 3 * N};
+    rig->s = (struct second_read_row){rig->rows[s_ROW] + GUARD, N};
+}
+
+static struct second_row row_of(const struct rig *rig, int i)
+{
+    const struct second_row rows[6] = {rig->c.h, rig->c.e, rig->c.u, rig->c.V, rig->c.Q, rig->c.F};
+    return i < 6 ? rows[i] : (struct second_row){(int64_t *)rig->s.at, rig->s.len};
+}
+
+static void depths(struct rig *rig, int64_t h)
+{
+    for (size_t j = 0; j < rig->c.N; j++)
+        rig->c.h.at[j] = h;
+}
+
+enum call { MAKE, STEP, FILTER, RUN, WRITE };
+
+static struct second_answer call(struct rig *rig, enum call which)
+{
+    static uint8_t none[1];
+    switch (which) {
+    case MAKE:
+        return second_make(&rig->c);
+    case STEP:
+        return second_step(&rig->c, rig->s);
+    case FILTER:
+        return second_filter(&rig->c);
+    case RUN:
+        return second_run(&rig->c);
+    default:
+        return second_write(&rig->c, none, 0);
+    }
+}
+
+/* A call that must be refused so and leave everything as it was. */
+static void refused(struct rig *rig, enum call which, unsigned number, unsigned stage,
+                    const char *what)
+{
+    static struct rig before;
+    memcpy(&before, rig, sizeof before);
+    check_answer(call(rig, which), number, stage, 0, what);
+    check(memcmp(&before, rig, sizeof before) == 0, "a refused call changes nothing");
+}
+
+/* The answer of the input checks: 15 when 1 to 5 let the channel through. */
+static unsigned input_number(struct rig *rig)
+{
+    return call(rig, WRITE).number;
+}
+
+static void case_1_rounding(void)
+{
+    check(rounded(0.5) == 1 && rounded(-0.5) == -1 && rounded(1.2) == 1, "case 1");
+    check(rounded(0.49999999999999994) == 0 && rounded(-0.49999999999999994) == 0,
+          "just below a half");
+    check(rounded(2.5) == 3 && rounded(-2.5) == -3 && rounded(3.5) == 4 && rounded(1.5) == 2,
+          "halves go away from zero");
+    check(rounded(0.5000000000000001) == 1 && rounded(-0.75) == -1, "above a half");
+    check(rounded(999999999999999.5) == 1e15 && rounded(-999999999999998.5) == -999999999999999,
+          "halves near 10^15");
+    check(rounded(1e15) == 1e15 && rounded(-0.0) == 0, "whole numbers stay");
+    check(rounded_quotient(5, 10) == 1 && rounded_quotient(-5, 10) == -1 &&
+              rounded_quotient(4, 10) == 0 && rounded_quotient(-15, 10) == -2,
+          "quotients");
+}
+
+/* The quick quotient against the plain one, about halves above all. */
+static void quick_quotients(void)
+{
+    static const int64_t divisors[] = {120000,        60000000,      12000,        24000,
+                                       120000000,     240000000,     60000000000,  120000000000,
+                                       204000000,     119976000000};
+    uint64_t seed = 1;
+    unsigned wrong = 0;
+    for (size_t i = 0; i < sizeof divisors / sizeof *divisors; i++) {
+        int64_t d = divisors[i], most = INT64_C(4400000000000000000);
+        if (most / d > INT64_C(90000000000))
+            most = d * INT64_C(90000000000);
+        for (int t = 0; t < 20000; t++) {
+            seed = seed * UINT64_C(6364136223846793005) + UINT64_C(1442695040888963407);
+            int64_t near = (int64_t)(seed >> 1) % most / d * d + d / 2 + (int64_t)(seed >> 60) - 8;
+            int64_t n = t % 4 < 2 ? near : (int64_t)(seed >> 1) % most;
+            n = t % 2 ? -n : n;
+            wrong += quick_quotient(n, divisor(d)) != rounded_quotient(n, d);
+        }
+    }
+    check_number(wrong, 0, "quick quotients");
+}
+
+static void case_2_D(void)
+{
+    int64_t e[8];
+    for (int64_t j = 0; j < 8; j++)
+        e[j] = j * j * j * j;
+    check_number(D(e + 3), 1296, "case 2");
+}
+
+static void case_3_acceleration(void)
+{
+    struct rig rig;
+    bool good = true;
+    still(&rig, 12);
+    for (int64_t j = 0; j < 12; j++)
+        rig.c.e.at[j] = 12 * (j + 1);
+    check_answer(call(&rig, MAKE), 0, 0, 0, "case 3 is made");
+    for (size_t j = 2; j < 10; j++)
+        good &= rig.c.F.at[j] == -118;
+    check(good, "case 3");
+    check_number(rig.c.F.at[0], -69, "case 3, at the wall");
+}
+
+/* Work rows for the channel's h and X with the given e and u. */
+static void trial(struct work *k, const struct rig *rig)
+{
+    check_number(make_input_refusal(k, &rig->c), 0, "a trial's input");
+    k->T = (int64_t)rig->c.T;
+    for (size_t j = 0; j < k->N; j++) {
+        k->e[GHOST + j] = rig->c.e.at[j];
+        k->H[j] = k->bed[j] + rig->c.e.at[j];
+        put_u(k, j, (double)rig->c.u.at[j]);
+    }
+    follow(k);
+}
+
+static void case_4_plain_part(void)
+{
+    static struct work k;
+    struct rig rig;
+    still(&rig, 8);
+    for (size_t j = 0; j < 8; j++)
+        rig.c.u.at[j] = 12;
+    trial(&k, &rig);
+    check_number(plain_part(k.P + GHOST), 14000000, "case 4, cells 1 and 2");
+    check_number(plain_part(k.P + GHOST + 1), 12000000, "case 4, cells 2 and 3");
+    check_number(plain_part(k.P + GHOST + 7), 0, "the far wall's plain part");
+    check_number(plain_part(k.P + GHOST - 1), 0, "the near wall's plain part");
+    check(k.M[GHOST + 7] + k.M[GHOST + 8] == 0, "the far wall's dispersive part");
+}
+
+/* e of a trial that W = 1 through every inner face has moved. */
+static void moved_by_1(const struct work *k, const char *what)
+{
+    static const int64_t due[8] = {-1, 0, 0, 0, 0, 0, 0, 1};
+    check_row(k->e + GHOST, due, 8, what);
+}
+
+static void case_5_movement(void)
+{
+    static struct work k;
+    struct rig rig;
+    struct sums sums;
+    still(&rig, 8);
+    rig.c.T = 100;
+    for (size_t j = 0; j < 21; j++)
+        rig.c.Q.at[j] = 12000000;
+    trial(&k, &rig);
+    check_number(predict(&k, &rig.c, rig.s.at), 0, "case 5 predicts");
+    moved_by_1(&k, "case 5, predicted");
+    for (size_t j = 0; j < 7; j++)
+        k.Q[j] = 12000000;
+    k.Q[7] = 0;
+    memset(k.F, 0, sizeof k.F);
+    check_number(correct(&k, &rig.c, &sums), 0, "case 5 corrects");
+    moved_by_1(&k, "case 5, corrected");
+}
+
+/* The weights one by one: each level alone moves its share. */
+static void weights(void)
+{
+    static const int64_t predicted[3] = {2300, -1600, 500}, corrected[4] = {450, 950, -250, 50};
+    static struct work k;
+    struct rig rig;
+    struct sums sums;
+    for (size_t level = 0; level < 4; level++) {
+        still(&rig, 8);
+        rig.c.T = 100;
+        if (level > 0)
+            rig.c.Q.at[(level - 1) * 7 + 3] = INT64_C(12000000000);
+        if (level > 0)
+            rig.c.F.at[(level - 1) * 8 + 3] = 12000;
+        trial(&k, &rig);
+        check_number(predict(&k, &rig.c, rig.s.at), 0, "weights predict");
+        if (level > 0) {
+            check_number(k.e[GHOST + 4], predicted[level - 1], "predictor's weight on Q");
+            check_number(k.V[3], predicted[level - 1], "predictor's weight on F");
+        }
+        memset(k.Q, 0, sizeof k.Q);
+        memset(k.F, 0, sizeof k.F);
+        k.Q[3] = level == 0 ? INT64_C(12000000000) : 0;
+        k.F[3] = level == 0 ? 12000 : 0;
+        check_number(correct(&k, &rig.c, &sums), 0, "weights correct");
+        check_number(k.e[GHOST + 4], corrected[level], "corrector's weight on Q");
+        check_number(k.V[3], corrected[level], "corrector's weight on F");
+    }
+}
+
+static void case_6_dispersive_part(void)
+{
+    static struct work k;
+    struct rig rig;
+    bool good = true;
+    still(&rig, 10);
+    for (int64_t j = 0; j < 10; j++)
+        rig.c.u.at[j] = (j + 1) * (j + 1);
+    trial(&k, &rig);
+    for (size_t j = 1; j < 8; j++)
+        good &= rounded((k.M[GHOST + j] + k.M[GHOST + j + 1]) / 2) == -113372;
+    check(good, "case 6");
+}
+
+static void case_7_coefficients(void)
+{
+    static struct work k;
+    struct rig rig;
+    still(&rig, 8);
+    trial(&k, &rig);
+    check(k.a[1] == -3900195000000 && k.c[1] == -3900195000000, "case 7, a and c");
+    check(k.b[1] == 17800390000000, "case 7, b");
+    check(k.b[0] == 21700585000000 && k.b[7] == 21700585000000, "case 7, wall b");
+    check(k.a[0] == 0 && k.c[7] == 0, "the wall side is dropped");
+}
+
+static void case_8_dominance(void)
+{
+    struct rig rig;
+    still(&rig, 9);
+    depths(&rig, 1941);
+    rig.c.h.at[4] = 1000;
+    check_answer(call(&rig, MAKE), 0, 0, 0, "case 8, accepted");
+    still(&rig, 9);
+    depths(&rig, 1942);
+    rig.c.h.at[4] = 1000;
+    refused(&rig, MAKE, 5, 0, "case 8, refused");
+}
+
+static void wall_dominance(void)
+{
+    struct rig rig;
+    for (int last = 0; last < 2; last++) {
+        still(&rig, 8);
+        depths(&rig, 4352);
+        rig.c.h.at[last ? 7 : 0] = 1000;
+        check_number(input_number(&rig), 15, "wall row 4352");
+        depths(&rig, 4353);
+        rig.c.h.at[last ? 7 : 0] = 1000;
+        refused(&rig, STEP, 5, 0, "wall row 4353");
+    }
+}
+
+static void strict_dominance(void)
+{
+    struct rig rig;
+    still(&rig, 9);
+    rig.c.X = 177;
+    depths(&rig, 1029);
+    rig.c.h.at[4] = 1000;
+    check_number(input_number(&rig), 15, "neighbours 1029 and 1029");
+    for (size_t j = 5; j < 9; j++)
+        rig.c.h.at[j] = 1030;
+    refused(&rig, STEP, 5, 0, "neighbours 1029 and 1030, equality");
+}
+
+static void case_9_settling(void)
+{
+    struct sums none = {8, 0}, more = {9, 0}, large = {9, 1000}, just = {9, 999};
+    check(small(none, 8), "case 9, 8 settles");
+    check(!small(more, 8), "case 9, 9 does not");
+    check(small(large, 8) && !small(just, 8), "new sizes count");
+}
+
+static void case_10_filter(void)
+{
+    static const int64_t due[9] = {-1, 8, -28, 56, 186, 56, -28, 8, -1};
+    struct rig rig;
+    still(&rig, 16);
+    rig.c.e.at[7] = 256;
+    check_answer(call(&rig, FILTER), 0, 0, 0, "case 10, e filters");
+    check_row(rig.c.e.at + 3, due, 9, "case 10, e");
+    check(rig.c.e.at[2] == 0 && rig.c.e.at[12] == 0, "case 10, e beyond");
+    still(&rig, 16);
+    rig.c.V.at[7] = 256;
+    check_answer(call(&rig, FILTER), 0, 0, 0, "case 10, V filters");
+    check_row(rig.c.V.at + 3, due, 9, "case 10, V");
+    check(rig.c.V.at[2] == 0 && rig.c.V.at[12] == 0, "case 10, V beyond");
+}
+
+static void case_11_filter(void)
+{
+    bool good = true;
+    int64_t sum = 0;
+    struct rig rig;
+    still(&rig, 16);
+    for (size_t j = 0; j < 16; j++)
+        rig.c.e.at[j] = j % 2 ? -100 : 100;
+    check_answer(call(&rig, FILTER), 0, 0, 0, "case 11 filters");
+    for (size_t j = 4; j < 12; j++)
+        good &= rig.c.e.at[j] == 0;
+    check(good, "case 11");
+    for (size_t j = 0; j < 16; j++)
+        sum += rig.c.e.at[j];
+    check_number(sum, 0, "a filter keeps the water");
+}
+
+/* The wall changes the sign of V and not of e. */
+static void filter_mirrors(void)
+{
+    bool good = true;
+    struct rig rig;
+    still(&rig, 8);
+    for (size_t j = 0; j < 8; j++)
+        rig.c.e.at[j] = 2560, rig.c.V.at[j] = 256;
+    rig.c.accepted = 9;
+    check_answer(call(&rig, FILTER), 0, 0, 0, "a level channel filters");
+    for (size_t j = 0; j < 8; j++)
+        good &= rig.c.e.at[j] == 2560;
+    check(good, "level water stays");
+    check_number(rig.c.V.at[0], 256 - 2 * (56 - 28 + 8 - 1), "V at the wall");
+    check_number(rig.c.V.at[1], 256 - 2 * (-28 + 8 - 1), "V beside the wall");
+    check_number(rig.c.V.at[7], 256 - 2 * (56 - 28 + 8 - 1), "V at the far wall");
+    check(rig.c.accepted == 9, "a filter is no step");
+}
+
+/* u 20,000,000.2 and a made V 2,000,000,000.2 and a dispersive part
+   1,000,000,000,000,000.25 are outside, though they would round inside. */
+static void ranges_before_rounding(void)
+{
+    static const int64_t h[8] = {19997, 19991, 19993, 19990, 19990, 19990, 19990, 19990};
+    struct rig rig;
+    still(&rig, 8);
+    rig.c.X = 5000;
+    rig.c.V.at[3] = 20614588;
+    rig.c.V.at[4] = 30;
+    refused(&rig, STEP, 7, 0, "u above its range by less than a half");
+    rig.c.V.at[4] = 10;
+    check_number(call(&rig, STEP).number, 0, "u below its range by less than a half");
+    still(&rig, 8);
+    rig.c.X = 10;
+    depths(&rig, 386);
+    rig.c.u.at[2] = -2;
+    rig.c.u.at[3] = 1719354;
+    refused(&rig, MAKE, 7, 0, "made V above its range by less than a half");
+    rig.c.u.at[2] = -1;
+    check_number(call(&rig, MAKE).number, 0, "made V within its range");
+    still(&rig, 8);
+    rig.c.X = 3265;
+    memcpy(rig.c.h.at, h, sizeof h);
+    rig.c.u.at[0] = 18919663;
+    rig.c.u.at[1] = 9997957;
+    rig.c.u.at[2] = 800140;
+    rig.c.e.at[0] = 1000 - 1000 * h[0];
+    rig.c.e.at[1] = 1000 - 1000 * h[1];
+    rig.c.e.at[2] = 20000000;
+    refused(&rig, MAKE, 9, 0, "dispersive part outside by less than a half");
+    rig.c.u.at[0]--;
+    check_number(call(&rig, MAKE).number, 0, "dispersive part inside");
+}
+
+static void cells_and_lengths(void)
+{
+    static const uint64_t wrong[] = {0, 1, 7, 9, 257, 1000, UINT64_C(1) << 32, UINT64_MAX};
+    struct rig rig;
+    for (size_t i = 0; i < sizeof wrong / sizeof *wrong; i++)
+        for (enum call which = MAKE; which <= WRITE; which++) {
+            still(&rig, 8);
+            rig.c.N = wrong[i];
+            refused(&rig, which, 1, 0, "N");
+        }
+    for (enum call which = MAKE; which <= WRITE; which++) {
+        still(&rig, 7);
+        refused(&rig, which, 1, 0, "7 cells with rows to match");
+        still(&rig, 257);
+        refused(&rig, which, 1, 0, "257 cells with rows to match");
+    }
+    still(&rig, 256);
+    check_number(input_number(&rig), 15, "N 256");
+    for (int row = h_ROW; row <= F_ROW; row++)
+        for (int more = -1; more <= 1; more += 2)
+            for (enum call which = MAKE; which <= WRITE; which++) {
+                struct second_row *rows[6];
+                still(&rig, 8);
+                rows[h_ROW] = &rig.c.h, rows[e_ROW] = &rig.c.e, rows[u_ROW] = &rig.c.u;
+                rows[V_ROW] = &rig.c.V, rows[Q_ROW] = &rig.c.Q, rows[F_ROW] = &rig.c.F;
+                rows[row]->len = (size_t)((ptrdiff_t)rows[row]->len + more);
+                refused(&rig, which, 1, 0, "a lent row's length");
+            }
+    still(&rig, 8);
+    rig.s.len = 7;
+    refused(&rig, STEP, 1, 0, "a short poured row");
+    rig.s.len = 0;
+    refused(&rig, STEP, 1, 0, "an empty poured row");
+    rig.s.len = 9;
+    refused(&rig, STEP, 1, 0, "a long poured row");
+}
+
+static void counts(void)
+{
+    static const struct {
+        uint64_t X, T, accepted, wanted;
+        unsigned due;
+    } at[] = {
+        {10, 20, 0, 10, 15},     {9, 20, 0, 10, 2},       {5000, 20, 0, 10, 15},
+        {5001, 20, 0, 10, 2},    {0, 20, 0, 10, 2},       {UINT64_MAX, 20, 0, 10, 2},
+        {1000, 1, 0, 10, 15},    {1000, 0, 0, 10, 2},     {1000, 100, 0, 10, 15},
+        {1000, 101, 0, 10, 2},   {1000, UINT64_MAX, 0, 10, 2},
+        {1000, 20, 0, 1, 15},    {1000, 20, 0, 0, 2},     {1000, 20, 0, 1000000, 15},
+        {1000, 20, 0, 1000001, 2}, {1000, 20, 10, 10, 15}, {1000, 20, 11, 10, 2},
+        {1000, 20, UINT64_MAX, 10, 2}, {1000, 20, 0, UINT64_MAX, 2},
+    };
+    struct rig rig;
+    for (size_t i = 0; i < sizeof at / sizeof *at; i++) {
+        still(&rig, 8);
+        rig.c.X = at[i].X;
+        rig.c.T = at[i].T;
+        rig.c.accepted = at[i].accepted;
+        rig.c.wanted = at[i].wanted;
+        check_number(input_number(&rig), at[i].due, "a count");
+        if (at[i].due == 2) {
+            refused(&rig, STEP, 2, 0, "a step's count");
+            refused(&rig, FILTER, 2, 0, "a filter's count");
+            refused(&rig, RUN, 2, 0, "a run's count");
+        }
+    }
+    still(&rig, 8);
+    rig.c.accepted = UINT64_MAX;
+    check_answer(call(&rig, MAKE), 0, 0, 0, "make does not read accepted");
+    check(rig.c.accepted == 0, "make sets accepted");
+    rig.c.wanted = 0;
+    refused(&rig, MAKE, 2, 0, "make's wanted");
+}
+
+static void values(void)
+{
+    static const int64_t low[7] = {1,       -e_MOST, -u_MOST, -V_MOST, -Q_MOST, -F_MOST, -s_MOST};
+    static const int64_t high[7] = {h_MOST, e_MOST, u_MOST, V_MOST, Q_MOST, F_MOST, s_MOST};
+    struct rig rig;
+    for (int row = h_ROW; row <= s_ROW; row++) {
+        size_t len;
+        still(&rig, 8);
+        len = row_of(&rig, row).len;
+        for (size_t j = 0; j < len; j += len - 1) {
+            const int64_t outside[4] = {low[row] - 1, high[row] + 1, INT64_MIN, INT64_MAX};
+            for (int i = 0; i < 4; i++) {
+                still(&rig, 8);
+                row_of(&rig, row).at[j] = outside[i];
+                refused(&rig, STEP, 3, 0, "a value outside");
+                if (row < s_ROW) {
+                    refused(&rig, FILTER, 3, 0, "a value outside, filter");
+                    refused(&rig, RUN, 3, 0, "a value outside, run");
+                    refused(&rig, WRITE, 3, 0, "a value outside, write");
+                }
+                if (row <= u_ROW)
+                    refused(&rig, MAKE, 3, 0, "a value outside, make");
+            }
+            still(&rig, 8);
+            depths(&rig, 20000);
+            rig.c.X = 5000;
+            row_of(&rig, row).at[j] = high[row];
+            check_number(input_number(&rig), 15, "the highest value");
+            row_of(&rig, row).at[j] = row == e_ROW ? 1000 - 20000000 : low[row];
+            check_number(input_number(&rig), 15, "the lowest value");
+        }
+    }
+    still(&rig, 8);
+    rig.c.V.at[0] = rig.c.Q.at[0] = rig.c.F.at[0] = INT64_MIN;
+    check_answer(call(&rig, MAKE), 0, 0, 0, "make does not read what it fills");
+}
+
+static void water(void)
+{
+    struct rig rig;
+    still(&rig, 8);
+    rig.c.e.at[7] = -999000;
+    check_number(input_number(&rig), 15, "1,000 um of water");
+    rig.c.e.at[7] = -999001;
+    for (enum call which = MAKE; which <= WRITE; which++)
+        refused(&rig, which, 4, 0, "999 um of water");
+}
+
+/* Every refusal of the input is made to meet the ones after it. */
+static void input_order(void)
+{
+    for (unsigned first = 5; first >= 1; first--)
+        for (enum call which = MAKE; which <= WRITE; which++) {
+            struct rig rig;
+            still(&rig, 9);
+            rig.c.accepted = rig.c.wanted;
+            depths(&rig, 2000);
+            rig.c.h.at[4] = 1000;
+            if (first <= 4)
+                rig.c.e.at[0] = -1999500;
+            if (first <= 3)
+                rig.c.e.at[8] = e_MOST + 1;
+            if (first <= 2)
+                rig.c.T = 0;
+            if (first <= 1)
+                rig.c.u.len = 8;
+            refused(&rig, which, first, 0, "the order of input checks");
+        }
+}
+
+static void poured_order(void)
+{
+    struct rig rig;
+    still(&rig, 8);
+    rig.c.e.at[0] = -999500;
+    ((int64_t *)rig.s.at)[7] = s_MOST + 1;
+    refused(&rig, STEP, 3, 0, "poured beats water depth");
+    rig.c.X = 9;
+    refused(&rig, STEP, 2, 0, "counts beat poured");
+    rig.s.len = 9;
+    refused(&rig, STEP, 1, 0, "poured length beats counts");
+}
+
+static void complete_order(void)
+{
+    struct rig rig;
+    still(&rig, 8);
+    rig.c.accepted = 10;
+    rig.c.F.at[0] = F_MOST;
+    rig.c.T = 100;
+    refused(&rig, STEP, 11, 0, "complete beats the stages");
+    refused(&rig, FILTER, 11, 0, "a filter of a complete channel");
+    check_answer(call(&rig, RUN), 0, 0, 0, "a run of a complete channel");
+    check(rig.c.accepted == 10 && rig.c.F.at[0] == F_MOST, "it changes nothing");
+    refused(&rig, WRITE, 15, 0, "a complete channel can be written");
+    rig.c.accepted = 9;
+    refused(&rig, STEP, 7, 0, "one step is left");
+}
+
+/* Stage 0 with several faults at once: 8, 4, 7 in this order over all cells. */
+static void stage_order(void)
+{
+    struct rig rig;
+    still(&rig, 8);
+    rig.c.X = 10;
+    rig.c.T = 100;
+    rig.c.Q.at[6] = Q_MOST;
+    rig.c.F.at[0] = F_MOST;
+    rig.c.e.at[0] = -999000;
+    ((int64_t *)rig.s.at)[0] = -1;
+    refused(&rig, STEP, 8, 0, "8 beats 4 and 7");
+    rig.c.Q.at[6] = 0;
+    refused(&rig, STEP, 4, 0, "4 beats 7");
+    ((int64_t *)rig.s.at)[0] = 0;
+    refused(&rig, STEP, 7, 0, "V out of range");
+    still(&rig, 8);
+    rig.c.V.at[7] = 21000000;
+    rig.c.X = 5000;
+    depths(&rig, 1);
+    refused(&rig, STEP, 7, 0, "u out of range");
+}
+
+/* u of 2, 2, -2, -2 in turn: the mirrored rows go on in the same turn. */
+static void turns(struct rig *rig, int64_t V)
+{
+    still(rig, 8);
+    rig->c.X = 10;
+    rig->c.T = 1;
+    depths(rig, 20000);
+    for (size_t j = 0; j < 8; j++)
+        rig->c.V.at[j] = j % 4 < 2 ? V : -V;
+}
+
+static void flux_refusals(void)
+{
+    struct rig rig;
+    turns(&rig, 374418840); /* u is 120 */
+    refused(&rig, STEP, 9, 0, "dispersive part out of range");
+    turns(&rig, 343217270); /* u is 110 */
+    refused(&rig, STEP, 8, 1, "dispersive part in range");
+    turns(&rig, 399380096); /* filtered 374418840 */
+    refused(&rig, FILTER, 9, 0, "a filter's flux out of range");
+    turns(&rig, 0);
+    for (size_t j = 0; j < 8; j++)
+        rig.c.u.at[j] = j % 4 < 2 ? 120 : -120;
+    refused(&rig, MAKE, 9, 0, "a made flux out of range");
+    rig.c.u.at[7] = -20000000;
+    refused(&rig, MAKE, 7, 0, "in make 7 beats 9");
+}
+
+/* Both parts are in range at the first face, the second time not their sum. */
+static void sum_of_flux(void)
+{
+    struct rig rig;
+    for (int64_t u = 15000000; u <= 16000000; u += 1000000) {
+        still(&rig, 8);
+        rig.c.X = 5000;
+        depths(&rig, 20000);
+        for (size_t j = 0; j < 8; j++) {
+            rig.c.e.at[j] = 20000000;
+            rig.c.u.at[j] = u;
+        }
+        if (u == 15000000)
+            check_answer(call(&rig, MAKE), 0, 0, 0, "a sum in range");
+        else
+            refused(&rig, MAKE, 9, 0, "a sum out of range");
+    }
+}
+
+static void filter_refusals(void)
+{
+    static const int64_t sign[9] = {-1, 1, -1, 1, 1, 1, -1, 1, -1};
+    struct rig rig;
+    still(&rig, 16);
+    rig.c.X = 5000;
+    depths(&rig, 20000);
+    for (size_t j = 0; j < 9; j++)
+        rig.c.e.at[3 + j] = 19990000 * sign[j];
+    refused(&rig, FILTER, 8, 0, "filtered height out of range");
+    still(&rig, 16);
+    for (size_t j = 0; j < 9; j++) {
+        rig.c.e.at[3 + j] = -900000 * sign[j];
+        rig.c.V.at[3 + j] = V_MOST * sign[j];
+    }
+    refused(&rig, FILTER, 4, 0, "filtered water too low, before V");
+    memset(rig.c.e.at, 0, 16 * sizeof(int64_t));
+    refused(&rig, FILTER, 7, 0, "filtered V out of range");
+    memset(rig.c.V.at, 0, 16 * sizeof(int64_t));
+    rig.c.V.at[7] = V_MOST;
+    refused(&rig, FILTER, 7, 0, "u of the filtered V out of range");
+}
+
+/* Made channels of 8 cells whose first step is refused above stage 0. */
+static void later_stages(void)
+{
+    static const struct {
+        uint64_t X, T;
+        int64_t h, e[8], u[8];
+        unsigned number, stage;
+    } at[] = {
+        {10, 50, 10, {4494, 414}, {-7218, 5508, -7455, 3669, -9009, 6381, 8769, -9524}, 10, 10},
+        {1000, 20, 5000, {0, 292290, -415091, 0, 0, 0, 0, -308990},
+         {2882414, -2668180, -1242015, -12196983, -9260103, 7221815, -11060090, 2139932}, 4, 1},
+        {10, 100, 500, {0, -3888, -3872, 0, 0, 0, 3121, -3699},
+         {-85, 90, -73, -77, -53, -12, -56, 78}, 4, 2},
+        {10, 50, 500, {0, -33314, 0, 0, -38187, 30469, 38982, 0}, {0}, 4, 3},
+        {10, 50, 500, {-4413, -2037, 3410, 817, 453, -2259, -1858, 1532}, {0}, 4, 9},
+        {20, 100, 50, {30726, 33289, 0, 0, 0, 4282, 0, -29261},
+         {30, -64, 58, -73, 97, 54, -31, -87}, 4, 10},
+        {20, 1, 10, {3969, 2306, 0, 0, 0, 4398, 0, -4457},
+         {-14100142, -2556690, -3845716, -8777915, -1990699, -5699096, -4790484, 7074583}, 7, 1},
+        {20, 1, 2, {0, 0, 0, -26, 0, -128, 0, 394},
+         {18057431, -9006633, -11442814, -11338770, -1598944, -6858255, -4886606, -4148215}, 7, 2},
+        {1000, 50, 50, {0, 0, 0, -18, 0, 0, 0, -229},
+         {10376563, 9078151, -10657749, 16769997, -10842855, 18551028, -12202074, 11668317}, 7, 4},
+        {20, 100, 20000, {37313, 75026, -101476, 0, 0, 0, 105057, -126512}, {0}, 8, 1},
+        {10, 5, 20000, {0, 4723546, 2865440, 0, -7277654, -853775, 0, -9896626}, {0}, 8, 5},
+        {100, 50, 20000, {10307233, 0, -651964, -13517750, 0, 3623212, 0, 0},
+         {60, 77, -47, -73, 25, -41, -82, -41}, 8, 10},
+        {20, 100, 20000, {0, -52574, -46709, 52539, 0, 89025, 101402, 0}, {0}, 9, 2},
+    };
+    struct rig rig;
+    for (size_t i = 0; i < sizeof at / sizeof *at; i++) {
+        still(&rig, 8);
+        rig.c.X = at[i].X;
+        rig.c.T = at[i].T;
+        depths(&rig, at[i].h);
+        memcpy(rig.c.e.at, at[i].e, sizeof at[i].e);
+        memcpy(rig.c.u.at, at[i].u, sizeof at[i].u);
+        check_answer(call(&rig, MAKE), 0, 0, 0, "a later stage's channel is made");
+        refused(&rig, STEP, at[i].number, at[i].stage, "a later stage");
+    }
+}
+
+/* A sloping channel through make, three poured steps and a filter. */
+static void whole_calls(void)
+{
+    static const int64_t h[9] = {900, 880, 870, 850, 820, 800, 790, 770, 760};
+    static const int64_t e[9] = {0, 1200, 5400, 21300, 38700, 20100, 4600, 900, -300};
+    static const int64_t u[9] = {100, -250, 12000, 45000, -31000, 800, 0, 77, -5};
+    static const int64_t s[9] = {10, -20, 30, 0, 0, 500, -500, 1, -1};
+    static const int64_t V[9] = {2842, -60257, -79337, 527991, -492621, 135212, -3459, 665, -342};
+    static const int64_t Q[8] = {-4634331709,  -7173869293, 55355816546, 9383448384,
+                                 -37921842703, 10066676148, -183906133,  46579971};
+    static const int64_t F[9] = {-17658, -71609, -400839, -804149, 25246,
+                                 825270, 374742, 61476,   19293};
+    static const int64_t stepped_e[9] = {787, 1704, -3264, 27672, 44885, 14529, 4802, 1028, -183};
+    static const int64_t stepped_u[9] = {-741, -2815, 6678, 39227, -30240, 7107, 5429, 3318, 1060};
+    static const int64_t stepped_V[9] = {1826,   -58106, -96216, 491666, -485643,
+                                         167448, 7081,   3223,   349};
+    static const int64_t stepped_Q[24] = {
+        -5749754440,  -11176397885, 47338328396, 5206569707,  -32822922138, 17122001270,
+        3571985927,   1653482645,   -5485190616, -9886864322, 50275164650,  6643559651,
+        -34743823609, 14765308772,  2379288485,  1115296838,  -5121334064,  -8552328939,
+        52972048583,  8042280294,   -36463022280, 12407031834, 1129474361,  579606479};
+    static const int64_t stepped_F[27] = {-40242,  193908,  -535937,  -1213649, 367619,  960684,
+                                          205925,  82329,   19348,    -31985,   106996,  -493303,
+                                          -1082696, 254427, 920715,   263306,   74439,   19147,
+                                          -24484,  18325,   -448276,  -946176,  140045,  875737,
+                                          319856,  67437,   19091};
+    static const int64_t filtered_e[9] = {1767, -1005, -488, 27603, 41758, 18172, 2871, 1496, -214};
+    static const int64_t filtered_u[9] = {-808,  -5637, 15709, 23686, -12602,
+                                          -5435, 10982, 1796,  1237};
+    static const int64_t filtered_V_due[9] = {14574,  -130832, 82773,  218258, -200643,
+                                              -39920, 111300,  -31479, 8023};
+    static const int64_t filtered_Q[8] = {-11530676912, -558080008, 37706975454, 6224710530,
+                                          -24479101023, 6923042262, 10101721107, -728669294};
+    static const int64_t filtered_F[9] = {74190,  143680, -618905, -1040657, 256740,
+                                          932295, 298835, 20631,   40242};
+    struct rig rig;
+    still(&rig, 9);
+    rig.c.X = 250;
+    rig.c.T = 12;
+    memcpy(rig.c.h.at, h, sizeof h);
+    memcpy(rig.c.e.at, e, sizeof e);
+    memcpy(rig.c.u.at, u, sizeof u);
+    memcpy((int64_t *)rig.s.at, s, sizeof s);
+    check_answer(call(&rig, MAKE), 0, 0, 0, "whole make");
+    check_row(rig.c.V.at, V, 9, "made V");
+    check_row(rig.c.u.at, u, 9, "u stays as given");
+    for (size_t level = 0; level < 3; level++) {
+        check_row(rig.c.Q.at + 8 * level, Q, 8, "made Q");
+        check_row(rig.c.F.at + 9 * level, F, 9, "made F");
+    }
+    check_answer(call(&rig, STEP), 0, 0, 2, "first step");
+    check_row(rig.c.Q.at + 8, Q, 8, "Q moved down");
+    check_row(rig.c.F.at + 18, F, 9, "F moved down");
+    check_answer(call(&rig, STEP), 0, 0, 2, "second step");
+    check_answer(call(&rig, STEP), 0, 0, 1, "third step");
+    check(rig.c.accepted == 3, "accepted grows");
+    check_row(rig.c.h.at, h, 9, "h stays");
+    check_row(rig.c.e.at, stepped_e, 9, "stepped e");
+    check_row(rig.c.u.at, stepped_u, 9, "stepped u");
+    check_row(rig.c.V.at, stepped_V, 9, "stepped V");
+    check_row(rig.c.Q.at, stepped_Q, 24, "stepped Q");
+    check_row(rig.c.F.at, stepped_F, 27, "stepped F");
+    check_answer(call(&rig, FILTER), 0, 0, 0, "whole filter");
+    check_row(rig.c.e.at, filtered_e, 9, "filtered e");
+    check_row(rig.c.u.at, filtered_u, 9, "filtered u");
+    check_row(rig.c.V.at, filtered_V_due, 9, "filtered V");
+    check_row(rig.c.Q.at, filtered_Q, 8, "filtered Q");
+    check_row(rig.c.Q.at + 8, stepped_Q + 8, 16, "older Q stay");
+    check_row(rig.c.F.at, filtered_F, 9, "filtered F");
+    check_row(rig.c.F.at + 9, stepped_F + 9, 18, "older F stay");
+}
+
+/* The stored u is checked and otherwise not read by a step. */
+static void stored_u(void)
+{
+    struct rig one, other;
+    still(&one, 8);
+    one.c.e.at[3] = 5000;
+    still(&other, 8);
+    other.c.e.at[3] = 5000;
+    for (size_t j = 0; j < 8; j++)
+        other.c.u.at[j] = 20000000;
+    check_answer(call(&one, STEP), 0, 0, call(&other, STEP).count, "the stored u is not read");
+    check_row(one.c.u.at, other.c.u.at, 8, "nor does it stay");
+    check_row(one.c.e.at, other.c.e.at, 8, "nor moves water");
+}
+
+static void pouring(void)
+{
+    bool good = true;
+    struct rig rig;
+    still(&rig, 8);
+    for (size_t j = 0; j < 8; j++)
+        ((int64_t *)rig.s.at)[j] = 1000;
+    check_answer(call(&rig, STEP), 0, 0, 1, "level pouring");
+    for (size_t j = 0; j < 8; j++)
+        good &= rig.c.e.at[j] == 1000;
+    check(good, "poured once");
+}
+
+static void runs(void)
+{
+    static const int64_t e[8] = {0, -2000, -3000, -1000, 0, 0, -2000, 3000};
+    static const int64_t ran_e[8] = {2277, -2025, -1424, 2964, -1572, -4243, -877, -100};
+    struct rig rig;
+    still(&rig, 8);
+    rig.c.accepted = 3;
+    check_answer(call(&rig, RUN), 0, 0, 7, "a run to its end");
+    check(rig.c.accepted == 10, "it is complete");
+    check_answer(call(&rig, RUN), 0, 0, 0, "a run of what is complete");
+    still(&rig, 8);
+    rig.c.X = 20;
+    rig.c.T = 50;
+    rig.c.wanted = 40;
+    depths(&rig, 50);
+    memcpy(rig.c.e.at, e, sizeof e);
+    check_answer(call(&rig, MAKE), 0, 0, 0, "a run's make");
+    check_answer(call(&rig, RUN), 10, 10, 25, "a run that is refused a step");
+    check(rig.c.accepted == 25, "it keeps what was accepted");
+    check_row(rig.c.e.at, ran_e, 8, "and the water of that");
+    refused(&rig, STEP, 10, 10, "the step it was refused");
+}
+
+/* A channel file of 8 cells, written from a channel with telling values. */
+static size_t telling_file(struct rig *rig, uint8_t *bytes)
+{
+    still(rig, 8);
+    rig->c.X = 0x0403;
+    rig->c.T = 0x21;
+    rig->c.accepted = 0x030201;
+    rig->c.wanted = 0x030202;
+    for (size_t j = 0; j < 8; j++) {
+        rig->c.h.at[j] = 1000 + (int64_t)j;
+        rig->c.e.at[j] = (int64_t)j - 4;
+        rig->c.u.at[j] = -(int64_t)j;
+        rig->c.V.at[j] = j % 2 ? V_MOST : -V_MOST;
+    }
+    for (size_t j = 0; j < 21; j++)
+        rig->c.Q.at[j] = j % 2 ? -Q_MOST + (int64_t)j : Q_MOST - (int64_t)j;
+    for (size_t j = 0; j < 24; j++)
+        rig->c.F.at[j] = j % 2 ? -F_MOST + (int64_t)j : F_MOST - (int64_t)j;
+    check_answer(second_write(&rig->c, bytes, 536), 0, 0, 0, "a file is written");
+    return 536;
+}
+
+static void file_bytes(void)
+{
+    static const uint8_t head[48] = {1,   0, 0, 0, 8,   0, 0, 0, 3,   4, 0, 0, 0x21, 0, 0, 0,
+                                     1,   2, 3, 0, 2,   2, 3, 0, 48,  0, 0, 0, 80,   0, 0, 0,
+                                     112, 0, 0, 0, 144, 0, 0, 0, 176, 0, 0, 0, 88,   1, 0, 0};
+    static const uint8_t minus_4[4] = {0xfc, 0xff, 0xff, 0xff};
+    static const uint8_t newest_Q[8] = {0, 0x80, 0xc6, 0xa4, 0x7e, 0x8d, 3, 0};
+    static const uint8_t second_F[8] = {1, 0x18, 0x89, 0xb7, 0xe8, 0xff, 0xff, 0xff};
+    struct rig rig, back;
+    uint8_t bytes[536 + 8];
+    memset(bytes, 0xa5, sizeof bytes);
+    telling_file(&rig, bytes);
+    check(memcmp(bytes, head, 48) == 0, "counts and offsets");
+    check(memcmp(bytes + 80, minus_4, 4) == 0, "height of cell 1");
+    check(memcmp(bytes + 176, newest_Q, 8) == 0, "newest flux");
+    check(memcmp(bytes + 344 + 8, second_F, 8) == 0, "acceleration of cell 2");
+    check(bytes[536] == 0xa5, "nothing beyond the file");
+    still(&back, 8);
+    memset(back.c.h.at, 0x77, 8 * sizeof(int64_t));
+    check_answer(second_read(bytes, 536, &back.c), 0, 0, 0, "a file is read");
+    check(back.c.N == 8 && back.c.X == 0x0403 && back.c.T == 0x21 && back.c.accepted == 0x030201 &&
+              back.c.wanted == 0x030202,
+          "counts come back");
+    for (int row = h_ROW; row <= F_ROW; row++)
+        check_row(row_of(&back, row).at, row_of(&rig, row).at, row_of(&rig, row).len,
+                  "a row comes back");
+    for (size_t len = 0; len < 544; len += len == 535 ? 2 : 1)
+        if (len != 536 && (len < 4 || len > 530)) {
+            uint8_t before[sizeof bytes];
+            memcpy(before, bytes, sizeof bytes);
+            check_answer(second_write(&rig.c, bytes, len), 15, 0, 0, "a buffer of another length");
+            check(memcmp(before, bytes, sizeof bytes) == 0, "which stays as it was");
+        }
+}
+
+/* Reads bytes that must be refused so, with and without lent rows. */
+static void file_refused(const uint8_t *bytes, size_t len, unsigned number, const char *what)
+{
+    static struct rig rig, before;
+    char text[SECOND_LINE], due[SECOND_LINE];
+    still(&rig, 8);
+    memcpy(&before, &rig, sizeof rig);
+    check_answer(second_read(bytes, len, &rig.c), number, 0, 0, what);
+    check(memcmp(&before, &rig, sizeof rig) == 0, "a refused file changes nothing");
+    check_answer(second_print(bytes, len, text), number, 0, 0, "printing is refused too");
+    snprintf(due, sizeof due, "refused %u\n", number);
+    check(strcmp(text, due) == 0, "the line of a refused file");
+}
+
+/* Faults are laid one upon another, the last in the order first. */
+static void file_order(void)
+{
+    struct rig rig;
+    uint8_t bytes[600] = {0};
+    size_t len = telling_file(&rig, bytes);
+    for (size_t j = 0; j < 8; j++)
+        put(bytes + 48 + 4 * j, j == 4 ? 1000 : 2100, 4);
+    file_refused(bytes, len, 5, "a file not dominant");
+    put(bytes + 80, (uint64_t)(999 - 2100000), 4);
+    file_refused(bytes, len, 4, "a file with too little water");
+    put(bytes + 344 + 23 * 8, (uint64_t)(F_MOST + 1), 8);
+    file_refused(bytes, len, 3, "a file with a value outside");
+    put(bytes + 20, 0x030200, 4);
+    file_refused(bytes, len, 2, "a file accepted beyond wanted");
+    put(bytes + 44, 345, 4);
+    file_refused(bytes, len, 14, "a file of other offsets");
+    file_refused(bytes, len - 1, 12, "a short file");
+    file_refused(bytes, len + 1, 12, "a long file");
+    file_refused(bytes, 48, 12, "a file of counts alone");
+    put(bytes + 4, 257, 4);
+    file_refused(bytes, len, 1, "a file of 257 cells");
+    put(bytes + 4, 7, 4);
+    file_refused(bytes, len, 1, "a file of 7 cells");
+    put(bytes + 4, UINT32_MAX, 4);
+    file_refused(bytes, len, 1, "a file of 2^32 - 1 cells");
+    put(bytes, 2, 4);
+    file_refused(bytes, len, 13, "a file of edition 2");
+    file_refused(bytes, 48, 13, "48 bytes of edition 2");
+    file_refused(bytes, 47, 12, "47 bytes");
+    file_refused(bytes, 0, 12, "no bytes");
+}
+
+static void file_offsets(void)
+{
+    struct rig rig;
+    uint8_t bytes[536];
+    for (size_t at = 24; at < 48; at += 4) {
+        telling_file(&rig, bytes);
+        bytes[at + 3] = 1;
+        file_refused(bytes, 536, 14, "an offset");
+    }
+    telling_file(&rig, bytes);
+    put(bytes + 16, UINT32_MAX, 4);
+    file_refused(bytes, 536, 2, "counts are unsigned");
+}
+
+static void file_lent_rows(void)
+{
+    struct rig rig, nine;
+    uint8_t bytes[536];
+    telling_file(&rig, bytes);
+    still(&nine, 9);
+    check_answer(second_read(bytes, 536, &nine.c), 1, 0, 0, "rows lent for 9 cells");
+    check_answer(second_read(bytes, 500, &nine.c), 1, 0, 0, "lent rows come before the length");
+    check(nine.c.N == 9 && nine.c.h.at[0] == 1000, "and stay as they were");
+    still(&rig, 8);
+    rig.c.F.len = 8;
+    check_answer(second_read(bytes, 536, &rig.c), 1, 0, 0, "one level lent for three");
+    still(&rig, 8);
+    rig.c.N = 77;
+    check_answer(second_read(bytes, 536, &rig.c), 0, 0, 0, "the lent channel's N is not read");
+}
+
+static void printed(void)
+{
+    struct rig rig;
+    uint8_t bytes[SECOND_FILE];
+    char text[SECOND_LINE];
+    still(&rig, 8);
+    for (size_t j = 0; j < 8; j++)
+        rig.c.e.at[j] = 7;
+    second_write(&rig.c, bytes, 536);
+    check_answer(second_print(bytes, 536, text), 0, 0, 0, "a file is printed");
+    check(strcmp(text, "8 0 10 open 56\n") == 0, "its line");
+    rig.c.accepted = 10;
+    second_write(&rig.c, bytes, 536);
+    second_print(bytes, 536, text);
+    check(strcmp(text, "8 10 10 done 56\n") == 0, "a complete file's line");
+    still(&rig, 256);
+    depths(&rig, 20000);
+    rig.c.X = 5000;
+    rig.c.accepted = rig.c.wanted = 1000000;
+    for (size_t j = 0; j < 256; j++)
+        rig.c.e.at[j] = -19999000;
+    check_answer(second_write(&rig.c, bytes, SECOND_FILE), 0, 0, 0, "the longest file");
+    second_print(bytes, SECOND_FILE, text);
+    check(strcmp(text, "256 1000000 1000000 done -5119744000\n") == 0, "the longest line");
+}
+
+int main(void)
+{
+    case_1_rounding();
+    quick_quotients();
+    case_2_D();
+    case_3_acceleration();
+    case_4_plain_part();
+    case_5_movement();
+    weights();
+    case_6_dispersive_part();
+    case_7_coefficients();
+    case_8_dominance();
+    wall_dominance();
+    strict_dominance();
+    case_9_settling();
+    case_10_filter();
+    case_11_filter();
+    filter_mirrors();
+    ranges_before_rounding();
+    cells_and_lengths();
+    counts();
+    values();
+    water();
+    input_order();
+    poured_order();
+    complete_order();
+    stage_order();
+    flux_refusals();
+    sum_of_flux();
+    filter_refusals();
+    later_stages();
+    whole_calls();
+    stored_u();
+    pouring();
+    runs();
+    file_bytes();
+    file_order();
+    file_offsets();
+    file_lent_rows();
+    printed();
+    printf("%u passed, %u failed\n", passed, failed);
+    return failed != 0;
+}
