@@ -2,7 +2,6 @@
    bounds. The inner functions are reached by taking in the source itself. */
 #include "second.c"
 
-#include <stdlib.h>
 
 static unsigned passed, failed;
 
