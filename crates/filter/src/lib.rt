@@ -1,0 +1,84 @@
+// Filtering: the heights and reduced velocities of a channel smoothed, and its newest level worked out again.
+ghost use mathlib.Core.Path.{_≡_};
+ghost use Rattle.answers.specs.Stages.{leaves};
+ghost use mathlib.Core.List.{[]};
+ghost use Rattle.rule.specs.Channel.{channel};
+ghost use Rattle.rule.specs.Checks as checks;
+ghost use Rattle.rule.specs.Refusals.{numberOf};
+ghost use Rattle.rule.specs.Filter as rule;
+ghost use Rattle.rule.specs.Step.{tried};
+ghost use Rattle.rule.specs.Calls.{filterCall};
+ghost use Rattle.motion.specs.Weights.{moving};
+ghost use Rattle.stage.specs.Trials.{trialOf};
+ghost use Rattle.filter.specs.Asked.{Smoothing};
+
+// The checks 1 to 5, then 11: 0, or the number of the first that fails.
+fn ready(
+    n: usize,
+    x: u64,
+    t: u64,
+    accepted: u64,
+    wanted: u64,
+    h: &[i64],
+    e: &[i64],
+    u: &[i64],
+    v: &[i64],
+    q: &[i64],
+    f: &[i64],
+) -> u64
+    ensures { λ r. ⌜ r ≡ numberOf (checks.ready (channel n x t accepted wanted (now (h .entry)) (now (e .entry)) (now (u .entry)) (now (v .entry)) (now (q .entry)) (now (f .entry))) []) ⌝ }
+{
+    let number = checks::check(n, x, t, accepted, wanted, h, e, u, v, q, f, false, h);
+    if number != 0 {
+        return number;
+    }
+    if accepted == wanted {
+        return 11;
+    }
+    0
+}
+
+// The smoothed rows, the checks of a stage, and what is worked out from them.
+fn smoothed(n: usize, x: u64, h: &[i64], e: &[i64], v: &[i64]) -> stage::Trial
+    requires { ⌜ Smoothing n x (now h) (now e) (now v) ⌝ }
+    ensures { λ r. ⌜ r ≡ trialOf n (tried (moving n x 0 (now (h .entry)) [] []) (rule.smoothed n (now (e .entry))) (rule.smoothedReduced n (now (v .entry)))) ⌝ }
+{
+    let heights = motion::smoothed(n, e);
+    let reduced = motion::smoothed_reduced(n, v);
+    stage::tried(n, x, h, heights, reduced)
+}
+
+// All is worked out before anything is stored. A refused call leaves the lent rows as they were.
+pub fn filter(
+    n: usize,
+    x: u64,
+    t: u64,
+    accepted: u64,
+    wanted: u64,
+    h: &[i64],
+    e: &mut [i64],
+    u: &mut [i64],
+    v: &mut [i64],
+    q: &mut [i64],
+    f: &mut [i64],
+) -> rule::Answer
+    ensures { λ r. ⌜ leaves r (channel n x t accepted wanted (now (h .entry)) (now (e .exit)) (now (u .exit)) (now (v .exit)) (now (q .exit)) (now (f .exit))) ≡ filterCall (channel n x t accepted wanted (now (h .entry)) (now (e .entry)) (now (u .entry)) (now (v .entry)) (now (q .entry)) (now (f .entry))) ⌝ }
+{
+    let number = ready(n, x, t, accepted, wanted, h, e, u, v, q, f);
+    if number != 0 {
+        return answers::refused(number, 0);
+    }
+    let trial = smoothed(n, x, h, e, v);
+    let met = trial.number;
+    if met != 0 {
+        return answers::refused(met, 0);
+    }
+    let heights = trial.e;
+    let velocities = trial.u;
+    let reduced = trial.v;
+    let fluxes = trial.q;
+    let accelerations = trial.f;
+    store::keep_cells(n, e, u, v, &heights, &velocities, &reduced);
+    store::renew_levels(n, q, f, &fluxes, &accelerations);
+    answers::accepted(0)
+}

@@ -1,0 +1,86 @@
+// The four calls over lent rows, for C. The comparison with the second program and the bench call them.
+ghost use mathlib.Core.Path.{_≡_};
+ghost use Rattle.rule.specs.Channel.{channel};
+ghost use Rattle.rule.specs.Calls.{makeCall, stepCall, filterCall, runCall};
+ghost use Rattle.answers.specs.Stages.{leaves};
+
+// A channel from depths, heights and velocities.
+#[no_mangle]
+pub extern "C" fn lent_make(
+    n: usize,
+    x: u64,
+    t: u64,
+    accepted: &mut u64,
+    wanted: u64,
+    h: &[i64],
+    e: &[i64],
+    u: &[i64],
+    v: &mut [i64],
+    q: &mut [i64],
+    f: &mut [i64],
+) -> rule::Answer
+    ensures { λ r. ⌜ leaves r (channel n x t (now (accepted .exit)) wanted (now (h .entry)) (now (e .entry)) (now (u .entry)) (now (v .exit)) (now (q .exit)) (now (f .exit))) ≡ makeCall (channel n x t (now (accepted .entry)) wanted (now (h .entry)) (now (e .entry)) (now (u .entry)) (now (v .entry)) (now (q .entry)) (now (f .entry))) ⌝ }
+{
+    make::make(n, x, t, accepted, wanted, h, e, u, v, q, f)
+}
+
+// One step, with s poured.
+#[no_mangle]
+pub extern "C" fn lent_step(
+    n: usize,
+    x: u64,
+    t: u64,
+    accepted: &mut u64,
+    wanted: u64,
+    h: &[i64],
+    e: &mut [i64],
+    u: &mut [i64],
+    v: &mut [i64],
+    q: &mut [i64],
+    f: &mut [i64],
+    s: &[i64],
+) -> rule::Answer
+    ensures { λ r. ⌜ leaves r (channel n x t (now (accepted .exit)) wanted (now (h .entry)) (now (e .exit)) (now (u .exit)) (now (v .exit)) (now (q .exit)) (now (f .exit))) ≡ stepCall (channel n x t (now (accepted .entry)) wanted (now (h .entry)) (now (e .entry)) (now (u .entry)) (now (v .entry)) (now (q .entry)) (now (f .entry))) (now (s .entry)) ⌝ }
+{
+    step::step(n, x, t, accepted, wanted, h, e, u, v, q, f, s)
+}
+
+// One filter pass.
+#[no_mangle]
+pub extern "C" fn lent_filter(
+    n: usize,
+    x: u64,
+    t: u64,
+    accepted: u64,
+    wanted: u64,
+    h: &[i64],
+    e: &mut [i64],
+    u: &mut [i64],
+    v: &mut [i64],
+    q: &mut [i64],
+    f: &mut [i64],
+) -> rule::Answer
+    ensures { λ r. ⌜ leaves r (channel n x t accepted wanted (now (h .entry)) (now (e .exit)) (now (u .exit)) (now (v .exit)) (now (q .exit)) (now (f .exit))) ≡ filterCall (channel n x t accepted wanted (now (h .entry)) (now (e .entry)) (now (u .entry)) (now (v .entry)) (now (q .entry)) (now (f .entry))) ⌝ }
+{
+    filter::filter(n, x, t, accepted, wanted, h, e, u, v, q, f)
+}
+
+// Steps with nothing poured, until complete or refused.
+#[no_mangle]
+pub extern "C" fn lent_run(
+    n: usize,
+    x: u64,
+    t: u64,
+    accepted: &mut u64,
+    wanted: u64,
+    h: &[i64],
+    e: &mut [i64],
+    u: &mut [i64],
+    v: &mut [i64],
+    q: &mut [i64],
+    f: &mut [i64],
+) -> rule::Answer
+    ensures { λ r. ⌜ leaves r (channel n x t (now (accepted .exit)) wanted (now (h .entry)) (now (e .exit)) (now (u .exit)) (now (v .exit)) (now (q .exit)) (now (f .exit))) ≡ runCall (channel n x t (now (accepted .entry)) wanted (now (h .entry)) (now (e .entry)) (now (u .entry)) (now (v .entry)) (now (q .entry)) (now (f .entry))) ⌝ }
+{
+    run::run(n, x, t, accepted, wanted, h, e, u, v, q, f)
+}

@@ -1,0 +1,154 @@
+// A step over lent rows: a prediction, and corrections until they settle.
+ghost use mathlib.Core.Path.{_≡_};
+ghost use Rattle.rule.specs.Channel.{channel};
+ghost use Rattle.rule.specs.Calls.{stepCall};
+ghost use Rattle.answers.specs.Stages.{leaves, stageOf};
+ghost use Rattle.stage.specs.Asked.{Staging};
+ghost use Rattle.stage.specs.Trials.{stopped};
+ghost use Rattle.step.specs.Advance.{Advances};
+ghost use Rattle.step.specs.Attempt.{Attempted, ended};
+
+// Where the stages of a step ended: a refusal with its stage, or the count of corrections and the trial that settled.
+pub struct Advanced {
+    pub number: u64,
+    pub stage: u64,
+    pub count: u64,
+    pub trial: stage::Trial,
+}
+
+// Every stage starts from the stored e and V, and uses the trial Q and F of the stage before.
+fn advance(
+    n: usize,
+    x: u64,
+    t: u64,
+    h: &[i64],
+    e: &[i64],
+    v: &[i64],
+    q: &[i64],
+    f: &[i64],
+    s: &[i64],
+) -> Advanced
+    requires { ⌜ Staging n x t (now h) (now e) (now v) (now q) (now f) (now s) (now q) (now f) ⌝ }
+    ensures { λ r. ⌜ Advances n x t (now (h .entry)) (now (e .entry)) (now (v .entry)) (now (q .entry)) (now (f .entry)) (now (s .entry)) r ⌝ }
+{
+    let mut old = stage::stage(false, n, x, t, h, e, v, q, f, s, q, f);
+    let predicted = old.number;
+    if predicted != 0 {
+        return Advanced {
+            number: predicted,
+            stage: 0,
+            count: 0,
+            trial: old,
+        };
+    }
+    let mut k = 1;
+    while k <= 10 {
+        let before_q = old.q;
+        let before_f = old.f;
+        let new = stage::stage(true, n, x, t, h, e, v, q, f, s, &before_q, &before_f);
+        let number = new.number;
+        if number != 0 {
+            return Advanced {
+                number,
+                stage: k,
+                count: 0,
+                trial: new,
+            };
+        }
+        if stage::settled(n, new, old) {
+            return Advanced {
+                number: 0,
+                stage: 0,
+                count: k,
+                trial: new,
+            };
+        }
+        old = new;
+        k += 1;
+    }
+    Advanced {
+        number: 10,
+        stage: 10,
+        count: 0,
+        trial: old,
+    }
+}
+
+// An advance that is refused before any stage.
+fn refused(number: u64) -> Advanced
+    ensures { λ r. ⌜ r ≡ ended number (stageOf number 0) (stopped number) ⌝ }
+{
+    Advanced {
+        number,
+        stage: answers::stage_of(number, 0),
+        count: 0,
+        trial: stage::refusal(number),
+    }
+}
+
+// The whole step, but for what it stores: 1 to 5, then 11, then the stages.
+fn attempt(
+    n: usize,
+    x: u64,
+    t: u64,
+    accepted: u64,
+    wanted: u64,
+    h: &[i64],
+    e: &[i64],
+    u: &[i64],
+    v: &[i64],
+    q: &[i64],
+    f: &[i64],
+    s: &[i64],
+) -> Advanced
+    ensures { λ r. ⌜ Attempted (channel n x t accepted wanted (now (h .entry)) (now (e .entry)) (now (u .entry)) (now (v .entry)) (now (q .entry)) (now (f .entry))) (now (s .entry)) r ⌝ }
+{
+    let number = checks::check(n, x, t, accepted, wanted, h, e, u, v, q, f, true, s);
+    if number != 0 {
+        return refused(number);
+    }
+    if accepted == wanted {
+        return refused(11);
+    }
+    advance(n, x, t, h, e, v, q, f, s)
+}
+
+// One step with s poured: the rows and the count of accepted steps become the rule's, or stay as they were.
+pub fn step(
+    n: usize,
+    x: u64,
+    t: u64,
+    accepted: &mut u64,
+    wanted: u64,
+    h: &[i64],
+    e: &mut [i64],
+    u: &mut [i64],
+    v: &mut [i64],
+    q: &mut [i64],
+    f: &mut [i64],
+    s: &[i64],
+) -> rule::Answer
+    ensures { λ r. ⌜ leaves r (channel n x t (now (accepted .exit)) wanted (now (h .entry)) (now (e .exit)) (now (u .exit)) (now (v .exit)) (now (q .exit)) (now (f .exit))) ≡ stepCall (channel n x t (now (accepted .entry)) wanted (now (h .entry)) (now (e .entry)) (now (u .entry)) (now (v .entry)) (now (q .entry)) (now (f .entry))) (now (s .entry)) ⌝ }
+{
+    let count = *accepted;
+    let r = attempt(n, x, t, count, wanted, h, e, u, v, q, f, s);
+    let answer = rule::Answer {
+        number: r.number,
+        stage: r.stage,
+        count: r.count,
+    };
+    let number = r.number;
+    if number != 0 {
+        return answer;
+    }
+    let trial = r.trial;
+    let heights = trial.e;
+    let velocities = trial.u;
+    let reduced = trial.v;
+    let fluxes = trial.q;
+    let accelerations = trial.f;
+    store::keep_cells(n, e, u, v, &heights, &velocities, &reduced);
+    store::push_levels(n, q, f, &fluxes, &accelerations);
+    *accepted = count + 1;
+    answer
+}
