@@ -19,10 +19,9 @@ struct channel {
     int64_t h[CELLS], e[CELLS], u[CELLS], V[CELLS], Q[3 * CELLS], F[3 * CELLS], s[CELLS];
 };
 
-typedef uint64_t stepper(struct channel *);
+typedef struct lent_answer stepper(struct channel *);
 
-/* Both answer count * 65536 + number * 256 + stage. */
-static uint64_t library_step(struct channel *c)
+static struct lent_answer library_step(struct channel *c)
 {
     return lent_step(c->N, c->X, c->T, &c->accepted, c->wanted, c->h, c->N, c->e, c->N, c->u, c->N, c->V, c->N,
                      c->Q, 3 * (c->N - 1), c->F, 3 * c->N, c->s, c->N);
@@ -34,12 +33,12 @@ static struct second_channel lend(struct channel *c)
                                    {c->V, c->N}, {c->Q, 3 * (c->N - 1)}, {c->F, 3 * c->N}};
 }
 
-static uint64_t second_does(struct channel *c)
+static struct lent_answer second_does(struct channel *c)
 {
     struct second_channel lent = lend(c);
     struct second_answer a = second_step(&lent, (struct second_read_row){c->s, c->N});
     c->accepted = lent.accepted;
-    return a.count * 65536 + a.number * 256 + a.stage;
+    return (struct lent_answer){a.number, a.stage, a.count};
 }
 
 /* A smooth hump of 20 mm let go from rest in water of 1 m, over a bottom that rises gently. */
@@ -72,12 +71,12 @@ static double timed(stepper *step, struct channel c, long steps, long *stages, s
     double start = now();
     *stages = 0;
     for (long i = 0; i < steps; i++) {
-        uint64_t answer = step(&c);
-        if (answer % 65536) {
-            fprintf(stderr, "step %ld refused %d\n", i, (int)(answer / 256 % 256));
+        struct lent_answer answer = step(&c);
+        if (answer.number) {
+            fprintf(stderr, "step %ld refused %d\n", i, (int)answer.number);
             exit(2);
         }
-        *stages += 1 + (long)(answer / 65536);
+        *stages += 1 + (long)answer.count;
     }
     double seconds = now() - start;
     *end = c;

@@ -30,9 +30,9 @@ static struct answer of_second(struct second_answer a)
     return (struct answer){a.number, a.stage, a.count};
 }
 
-static struct answer of_library(uint64_t packed)
+static struct answer of_library(struct lent_answer a)
 {
-    return (struct answer){packed / 256 % 256, packed % 256, packed / 65536};
+    return (struct answer){a.number, a.stage, a.count};
 }
 
 static struct answer second_does(enum kind kind, struct call *c)
@@ -365,7 +365,7 @@ static bool seen(void)
 
 int main(int argc, char **argv)
 {
-    long calls = argc > 1 ? atol(argv[1]) : 1000000;
+    long calls = argc > 1 ? atol(argv[1]) : 600000;
     static struct call c;
     for (size_t i = 0; i < sizeof c.row / sizeof(int64_t); i++)
         ((int64_t *)c.row)[i] = (int64_t)draw();

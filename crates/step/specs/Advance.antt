@@ -84,7 +84,6 @@ module _ (n x t : ℕ) (h e v q f s : Row) where
   -- r is how the stages end, whatever the counts and the stored u
   pub record Advances (r : Advanced) : Type 0 where
     pub at : (a w : ℕ) (u : Row) → advanced (on a w u) r ≡ stepped (on a w u) (stages (on a w u) s)
-    pub placed : (r .number ≡ 0 → ⊥) → stageOf (r .number) (r .stage) ≡ r .stage
     pub kept : r .number ≡ 0 → Kept n (r .trial)
 
   -- with correction k next, after the trial old
@@ -115,16 +114,15 @@ module _ (n x t : ℕ) (h e v q f s : Row) where
 
     -- the prediction
     module _ (r : Trial) (p : r ≡ trialOf n (staged false q f)) where
-      pub predicted-refused : (r .number ≡ 0 → ⊥) → Advances (record { number = r .number; stage = 0; count = 0; trial = r })
+      pub predicted-refused : (r .number ≡ 0 → ⊥) → Advances (record { number = r .number; stage = stageOf (r .number) 0; count = 0; trial = r })
       predicted-refused z =
           let o = staged false q f in
           let y = why-refused n r o (staged-met false q f) p z in
           record {
             at =
                 λ a w u.
-                rw (ne-eqb (r .number) 0 z) (ap (λ k. refusal (on a w u) k 0) (y .numbered))
+                rw (ne-eqb (r .number) 0 z) (λ i. refusal (on a w u) (y .numbered i) (stage-met (r .number) 0 (y .from) (y .to) i))
                 ∙ stages-refused (on a w u) s (y .why) (predicts a w u ∙ y .is);
-            placed = λ d. stage-met (r .number) 0 (y .from) (y .to);
             kept = λ d. absurd (z d);
           }
 
@@ -148,16 +146,15 @@ module _ (n x t : ℕ) (h e v q f s : Row) where
           let z : suc (10 - k) ≡ 11 - k = omega arith in
           ap (λ i. stepped (on a w u) (rule.corrections (on a w u) s i k (rowsOf n old))) z ∙ g .at a w u
 
-      pub corrected-refused : (r .number ≡ 0 → ⊥) → Advances (record { number = r .number; stage = k; count = 0; trial = r })
+      pub corrected-refused : (r .number ≡ 0 → ⊥) → Advances (record { number = r .number; stage = stageOf (r .number) k; count = 0; trial = r })
       corrected-refused z =
           let y = why-refused n r o (staged-met true (old .q) (old .f)) p z in
           record {
             at =
                 λ a w u.
-                rw (ne-eqb (r .number) 0 z) (ap (λ i. refusal (on a w u) i k) (y .numbered))
+                rw (ne-eqb (r .number) 0 z) (λ i. refusal (on a w u) (y .numbered i) (stage-met (r .number) k (y .from) (y .to) i))
                 ∙ correction-refused (on a w u) s (10 - k) k (rowsOf n old) (y .why) (corrects a w u old ∙ y .is)
                 ∙ unrolled a w u;
-            placed = λ d. stage-met (r .number) k (y .from) (y .to);
             kept = λ d. absurd (z d);
           }
 
@@ -172,7 +169,6 @@ module _ (n x t : ℕ) (h e v q f s : Row) where
                   λ a w u.
                   correction-settled (on a w u) s (10 - k) k (rowsOf n old) (rowsOf n r) (corrects a w u old ∙ corrected-kept .is) d
                   ∙ unrolled a w u;
-              placed = λ i. absurd (i refl);
               kept = λ i. corrected-kept .kept;
             }
 
@@ -190,15 +186,15 @@ module _ (n x t : ℕ) (h e v q f s : Row) where
             }
 
   -- after the tenth
-  pub unsettled : (k : ℕ) (old : Trial) → 10 < k → Going k old → Advances (record { number = 10; stage = 10; count = 0; trial = old })
+  pub unsettled : (k : ℕ) (old : Trial) → 10 < k → Going k old → Advances (record { number = 10; stage = stageOf 10 k; count = 0; trial = old })
   unsettled k old h g =
       record {
         at =
             λ a w u.
             let i : 11 - k ≡ 0 = omega arith in
-            corrections-end (on a w u) s k (rowsOf n old)
+            ap (refusal (on a w u) 10) (sym (stage-last 10 k refl))
+            ∙ corrections-end (on a w u) s k (rowsOf n old)
             ∙ ap (λ m. stepped (on a w u) (rule.corrections (on a w u) s m k (rowsOf n old))) (sym i)
             ∙ g .at a w u;
-        placed = λ d. sym (stage-last 10 10 refl);
         kept = λ d. absurd (let z : _≡_ {A = ℕ} 10 0 = d in omega arith);
       }

@@ -36,7 +36,7 @@ fn advance(
     if predicted != 0 {
         return Advanced {
             number: predicted,
-            stage: 0,
+            stage: answers::stage_of(predicted, 0),
             count: 0,
             trial: old,
         };
@@ -50,7 +50,7 @@ fn advance(
         if number != 0 {
             return Advanced {
                 number,
-                stage: k,
+                stage: answers::stage_of(number, k),
                 count: 0,
                 trial: new,
             };
@@ -68,7 +68,7 @@ fn advance(
     }
     Advanced {
         number: 10,
-        stage: 10,
+        stage: answers::stage_of(10, k),
         count: 0,
         trial: old,
     }
@@ -137,8 +137,8 @@ pub fn step(
         stage: r.stage,
         count: r.count,
     };
-    let number = r.number;
-    if number != 0 {
+    let refusal = r.number;
+    if refusal != 0 {
         return answer;
     }
     let trial = r.trial;
