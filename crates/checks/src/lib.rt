@@ -15,7 +15,7 @@ ghost use Rattle.whole.specs.Row.{Within};
 ghost use Rattle.checks.specs.Allowed.{pouredRows};
 ghost use Rattle.checks.specs.Asked.{Water};
 ghost use Rattle.checks.specs.Facts.{valuesAllowed, levelsAllowed};
-ghost use Rattle.checks.specs.Made.{makeChecked};
+ghost use Rattle.rule.specs.Make.{makeChecked};
 ghost use Rattle.checks.specs.Order.{inOrder};
 
 // An entry is within `most` of zero.

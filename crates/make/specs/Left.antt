@@ -14,7 +14,7 @@ use Rattle.rule.specs.Refusals.{Refusal, shape, counts, value, depth, dominance
 use Rattle.rule.specs.Flux.{fluxes}
 use Rattle.rule.specs.Acceleration.{accelerations}
 use Rattle.rule.specs.Checks.{wet}
-use Rattle.rule.specs.Make.{make, reducedVelocities}
+use Rattle.rule.specs.Make.{makeChecked, make, reducedVelocities}
 use Rattle.rule.specs.Calls.{Called, called, plainly, fit, makeCall}
 use Rattle.rows.specs.All.{map-tab}
 use Rattle.rows.specs.Firsts.{firsts, firsts-padded}
@@ -48,15 +48,15 @@ early-then : {B : Type 0} (b : Bool) (r : Refusal) (f : Unit {0} → Outcome B) 
 early-then b r f e h = early-both (require b r) f (early-test b r e) (λ _. h)
 
 make-early : (n X T wanted : ℕ) (h e u : Row) → Early (make n X T wanted h e u)
-unfolding make wet reducedVelocities fluxes number stageOf
+unfolding make makeChecked wet reducedVelocities fluxes number stageOf
 make-early n X T wanted h e u =
-    early-then _ shape _ refl
+    early-both (makeChecked n X T wanted h e u) _
+    (early-then _ shape _ refl
     (early-then _ counts _ refl
     (early-then _ value _ refl
     (early-then _ value _ refl
-    (early-then _ value _ refl
-    (early-both (wet n X h e) _ (early-then _ depth _ refl (early-test _ dominance refl))
-    (λ _. early-both (reducedVelocities n X h u) _ (early-then _ speed _ refl tt) (λ v. early-both (fluxes n X h e u) _ (early-then _ flux _ refl tt) (λ Q. tt))))))))
+    (early-then _ value _ refl (early-then _ depth _ refl (early-test _ dominance refl)))))))
+    (λ _. early-both (reducedVelocities n X h u) _ (early-then _ speed _ refl tt) (λ v. early-both (fluxes n X h e u) _ (early-then _ flux _ refl tt) (λ Q. tt)))
 
 module _ (lent : Channel) where
   -- 1: a lent row does not fit, or N is not allowed, which make refuses itself
@@ -80,7 +80,7 @@ module _ (lent : Channel) where
   leaves-done m c e = rw e
 
 make-unfit : (n X T wanted : ℕ) (h e u : Row) → cellsAllowed n ≡ false → make n X T wanted h e u ≡ refused shape 0
-unfolding make require _>>=_
+unfolding make makeChecked require _>>=_
 make-unfit n X T wanted h e u z = rw z
 
 went : (b : Bool) (new row : Row) → (require b speed >>= λ _. done row) ≡ done new → new ≡ row

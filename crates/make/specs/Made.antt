@@ -11,7 +11,7 @@ use Rattle.rule.specs.Channel.{Channel, channel, filled}
 use Rattle.rule.specs.Refusals.{Outcome, refused, done, number, numberOf, _>>=_}
 use Rattle.rule.specs.Flux.{fluxes}
 use Rattle.rule.specs.Acceleration.{accelerations}
-use Rattle.rule.specs.Make.{make, reducedVelocities}
+use Rattle.rule.specs.Make.{makeChecked, make, reducedVelocities}
 use Rattle.rows.specs.Firsts.{firsts, firsts-all}
 use Rattle.solve.specs.Solved.{solvedOf}
 use Rattle.flux.specs.declared.FaceFluxes.{FaceFluxes}
@@ -20,7 +20,7 @@ use Rattle.flux.specs.Faces.{fluxesOf, length-fluxes}
 use Rattle.flux.specs.Sizes.{length-accelerations}
 use Rattle.checks.specs.Numbers.{number-not-0, done-of, after-done}
 use Rattle.checks.specs.Facts.{bed-of}
-use Rattle.checks.specs.Made.{Makeable, makeChecked, worked, make-is}
+use Rattle.checks.specs.Made.{Makeable, worked, make-is}
 use Rattle.make_v.specs.declared.Velocities.{Velocities}
 use Rattle.make_v.specs.Velocities.{Given, velocitiesOf}
 use Rattle.make.specs.declared.Made.{Made}

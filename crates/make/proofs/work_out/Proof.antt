@@ -6,7 +6,8 @@ use Rattle.rule.specs.Rows.{Row}
 use Rattle.rule.specs.Refusals.{Outcome, numberOf}
 use Rattle.rule.specs.Flux.{fluxes}
 use Rattle.rule.specs.Make.{reducedVelocities}
-use Rattle.checks.specs.Made.{Makeable, makeChecked, makeable-of}
+use Rattle.rule.specs.Make.{makeChecked}
+use Rattle.checks.specs.Made.{Makeable, makeable-of}
 use Rattle.make.specs.Made.{Kept, kept-velocities, kept-fluxes, given, moving, ready, stops-checked, stops-7, stops-9, all-kept}
 use Rattle.make.proofs.work_out.Statement.{statement}
 use Rattle.make.proofs.work_out.Tie as tie

@@ -1,8 +1,7 @@
 -- `run::still_step` meets its contract: the row that it pours holds nothing. Assumes nothing.
-use mathlib.Core.Path.{_≡_, sym, _∙_, ap}
+use mathlib.Core.Path.{sym, _∙_, ap}
 use native.Mathlib.Omega.{arith}
 use lib.Seq.{length-take-le}
-use Rattle.rule.specs.Rows.{Row}
 use Rattle.rule.specs.Channel.{channel}
 use Rattle.rule.specs.Calls.{stepCall}
 use Rattle.run.specs.Runs.{nothing, nothing-poured}

@@ -1,0 +1,115 @@
+-- The channel file: what is printed of a file, by the reader's number. Assumes nothing.
+use Prim.Native.Nat.{ℕ, _+_, _*_, _^_, _≤_, _<_}
+use native.Mathlib.Omega.{arith}
+use mathlib.Core.Path.{_≡_, sym, ap, subst, _∙_}
+use mathlib.Core.Bool.{true, false}
+use mathlib.Core.List.{List, []}
+use lib.ListN.{length, take}
+use Rattle.whole.specs.Row.{padded, Within}
+use Rattle.rule.specs.Rows.{Row}
+use Rattle.rule.specs.Refusals.{Refusal, Outcome, refused, done, number, numberOf, shape, counts, value, depth, dominance, pivot, speed, height, flux, unsettled, complete, fileLength, fileEdition, fileOffsets, bufferLength}
+use Rattle.rule.specs.Bytes.{countAt, rowAt}
+use Rattle.rule.specs.File.{lengthOf, offsets, countOf, rowOf, channelOf, readWith}
+use Rattle.rule.specs.Channel.{lengths}
+use Rattle.rule.specs.Line.{line, channelLine}
+use Rattle.rule.specs.Calls.{read, printFile}
+use Rattle.checks.specs.Numbers.{Refused}
+use Rattle.checks.specs.Allowed.{allowed-of}
+use Rattle.little.specs.Written.{written, length-written}
+use Rattle.text.specs.Lines.{lineOf, refusedOf, Printable, channel-line, refused-line}
+use Rattle.reader.specs.Opened.{Opened, opened-of, read-refused, plain-read}
+use Rattle.reader.specs.Reader.{fitsIn}
+use Rattle.reader.specs.Held.{four-cut}
+
+-- every refusal's number is at most 15
+number-most : (r : Refusal) → number r ≤ 15
+unfolding number
+number-most shape = omega arith
+number-most counts = omega arith
+number-most value = omega arith
+number-most depth = omega arith
+number-most dominance = omega arith
+number-most pivot = omega arith
+number-most speed = omega arith
+number-most height = omega arith
+number-most flux = omega arith
+number-most unsettled = omega arith
+number-most complete = omega arith
+number-most fileLength = omega arith
+number-most fileEdition = omega arith
+number-most fileOffsets = omega arith
+number-most bufferLength = omega arith
+
+outcome-most : {A : Type 0} (m : Outcome A) → numberOf m ≤ 15
+unfolding numberOf
+outcome-most (refused r k) = number-most r
+outcome-most (done a) = omega arith
+
+-- the reader's number k for the bytes s, as the code has it
+module _ (s : List ℕ) (k : ℕ) (e : k ≡ numberOf (readWith (fitsIn false s) [] s)) where
+  pub is-number : k ≡ numberOf (read s)
+  is-number = e ∙ ap numberOf (plain-read s s)
+
+  pub at-most : k ≤ 15
+  at-most = omega (arith, is-number, outcome-most (read s))
+
+  -- 1 to 15
+  pub refused-is : 1 ≤ k → refusedOf k ≡ printFile s
+  unfolding printFile read
+  refused-is h =
+      let r : Refused (readWith (fitsIn false s) [] s) = read-refused (fitsIn false s) [] s (λ z. omega arith) in
+      ap refusedOf (e ∙ sym (r .numbered)) ∙ refused-line (r .why) 0 ∙ ap line (sym (r .is) ∙ plain-read s s)
+
+-- a file that the reader takes
+module _ (s : List ℕ) (z : numberOf (read s) ≡ 0) where
+  opened : Opened (λ _. true) [] s
+  unfolding read
+  opened = opened-of (λ _. true) [] s (sym z)
+
+  -- its line is its channel's
+  pub held-is : channelLine (channelOf s) ≡ printFile s
+  unfolding printFile read line
+  held-is = ap line (sym (opened .is))
+
+  pub head-long : 48 ≤ length s
+  head-long = opened .head
+
+  module _ (n : ℕ) (e : n ≡ countAt 4 s 4) where
+    cells-is : countOf s 1 ≡ n
+    unfolding countOf
+    cells-is = sym e
+
+    pub cells-most : n ≤ 256
+    cells-most = subst (λ k. k ≤ 256) cells-is (opened .most)
+
+    pub file-long : length s ≡ 24 + 64 * n
+    unfolding lengthOf
+    file-long = subst (λ k. length s ≡ lengthOf k) cells-is (opened .sized)
+
+    -- its heights, read into an array
+    module _ (array : Row) (f : array ≡ padded n (rowAt 4 s (48 + 4 * n) n)) where
+      heights-are : take n array ≡ channelOf s .e
+      unfolding channelOf rowOf offsets lengths
+      heights-are = four-cut s (48 + 4 * n) n f ∙ ap (λ k. rowAt 4 s (48 + 4 * k) k) (sym cells-is)
+
+      module _ (accepted wanted : ℕ) (p : accepted ≡ countAt 4 s 16) (q : wanted ≡ countAt 4 s 20) where
+        pub line-is : lineOf n accepted wanted (take n array) ≡ channelLine (channelOf s)
+        unfolding channelOf countOf
+        line-is = (λ i. lineOf (e i) (p i) (q i) (heights-are i)) ∙ channel-line (channelOf s)
+
+        pub printable : accepted < 256 ^ 4 → wanted < 256 ^ 4 → Printable n accepted wanted (take n array)
+        unfolding channelOf
+        printable h l =
+            let cells = allowed-of (channelOf s) [] (opened .checked-0) .cells in
+            let long : length (take n array) ≡ n = ap length heights-are ∙ cells .e-long ∙ cells-is in
+            record {
+              cells = cells-most;
+              accepted-held = h;
+              wanted-held = l;
+              e-long = omega (arith, long, cells-most);
+              e-small = subst (λ row. Within 20_000_000 (length row) row) (sym heights-are) (subst (λ k. Within 20_000_000 k (channelOf s .e)) (sym (cells .e-long)) (cells .e-small));
+            }
+
+-- a buffer of 64 bytes still has them when a line is put into it
+pub still-64 : (d x e : List ℕ) (r : ℕ) → r ≡ length x → e ≡ written d 0 x → r ≤ 64 → length d ≡ 64 → length e ≡ 64
+still-64 d x e r p q h l = ap length q ∙ length-written d 0 x (omega arith) ∙ l

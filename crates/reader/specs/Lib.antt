@@ -1,0 +1,4 @@
+pub mod Reader
+pub mod Held
+pub mod Opened
+pub mod Left

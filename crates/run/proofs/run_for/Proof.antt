@@ -1,0 +1,167 @@
+-- `run::run_for` meets its contract: what is left of the run, from the rows at hand, is the whole run. Assumes nothing.
+use Prim.Native.Nat.{ℕ}
+use mathlib.Core.List.{[]}
+use mathlib.Core.Path.{_≡_, _∙_, ap}
+use native.Mathlib.Omega.{arith}
+use Rattle.rule.specs.Channel.{Channel, channel}
+use Rattle.rule.specs.Refusals.{numberOf}
+use Rattle.rule.specs.Checks.{checked}
+use Rattle.answers.specs.Stages.{leaves}
+use Rattle.run.specs.Runs.{now, Running, run-early, run-starts, run-room, run-stops, run-on, run-ends}
+use borrow.Author.Needs.{needs}
+use Rattle.run.proofs.run_for.Statement.{statement}
+use Rattle.run.proofs.run_for.Tie as tie
+
+abbrev Inv-loop : tie.InvT-loop
+Inv-loop most n x t accepted₀ wanted h e₀ u₀ v₀ q₀ f₀ start number count₀ left₀ accepted e u v q f count left =
+    Running most (channel n x t accepted₀ wanted h e₀ u₀ v₀ q₀ f₀) accepted e u v q f count left
+
+abbrev μ-loop : tie.MeasureT-loop
+μ-loop most n x t accepted₀ wanted h e₀ u₀ v₀ q₀ f₀ start number count₀ left₀ accepted e u v q f count left = left
+
+-- the channel that a run was lent, after its checks
+abbrev lent : tie.After-check Inv-loop μ-loop → Channel
+lent c =
+    let s = c .before .before .before .before .before .before .before in
+    channel (s .args .n) (s .args .x) (s .args .t) (s .args .accepted .now) (s .args .wanted) (s .args .h .now) (s .args .e .now) (s .args .u .now) (s .args .v .now) (s .args .q .now) (s .args .f .now)
+
+abbrev most : tie.After-check Inv-loop μ-loop → ℕ
+most c = c .before .before .before .before .before .before .before .args .most
+
+passed : (c : tie.Else1 Inv-loop μ-loop) → 0 ≡ numberOf (checked (lent (c .before)) [])
+passed c = omega (arith, c .if1 .left, c .before .check .ensures)
+
+check-requires : tie.Need-check-requires Inv-loop μ-loop
+check-requires c κs = search needs
+
+refused-requires : tie.Need-refused-requires Inv-loop μ-loop
+refused-requires c κs = search needs
+
+same-length : tie.Need-same-length Inv-loop μ-loop
+same-length c = search needs
+
+same-length-2 : tie.Need-same-length-2 Inv-loop μ-loop
+same-length-2 c = search needs
+
+same-length-3 : tie.Need-same-length-3 Inv-loop μ-loop
+same-length-3 c = search needs
+
+same-length-4 : tie.Need-same-length-4 Inv-loop μ-loop
+same-length-4 c = search needs
+
+same-length-5 : tie.Need-same-length-5 Inv-loop μ-loop
+same-length-5 c = search needs
+
+returns : tie.Need-returns Inv-loop μ-loop
+returns c =
+    let k = c .before .before in
+    ap (λ a. leaves a (lent k)) (c .refused .ensures) ∙ run-early (most k) (lent k) (k .check .result) (k .check .ensures) (c .before .if1 .taken)
+
+sub-fewer : tie.Need-sub-fewer Inv-loop μ-loop
+sub-fewer c = run-room (lent (c .before)) (passed c)
+
+fewer-requires : tie.Need-fewer-requires Inv-loop μ-loop
+fewer-requires c κs = search needs
+
+loop-holds : tie.Need-loop-holds Inv-loop μ-loop
+loop-holds c = rw (c .fewer .ensures) (run-starts (most (c .before .before)) (lent (c .before .before)) (passed (c .before)))
+
+still-step-requires : tie.Need-still-step-requires Inv-loop μ-loop
+still-step-requires c κs = search needs
+
+same-length-6 : tie.Need-same-length-6 Inv-loop μ-loop
+same-length-6 c = search needs
+
+same-length-7 : tie.Need-same-length-7 Inv-loop μ-loop
+same-length-7 c = search needs
+
+same-length-8 : tie.Need-same-length-8 Inv-loop μ-loop
+same-length-8 c = search needs
+
+same-length-9 : tie.Need-same-length-9 Inv-loop μ-loop
+same-length-9 c = search needs
+
+same-length-10 : tie.Need-same-length-10 Inv-loop μ-loop
+same-length-10 c = search needs
+
+returns-2 : tie.Need-returns-2 Inv-loop μ-loop
+returns-2 c =
+    let k = c .before .before .before .before .before .before .before .before .before .before .before .before .before .before .before .before .before .before in
+    let s = c .before .before .before .before .before .before .before .still-step in
+    run-stops (most k) (lent k) (c .before .before .before .before .before .before .before .before .before .before .before .before .before .before .before .loop .inv) (omega (arith, c .before .before .before .before .before .before .before .before .before .before .before .before .before .before .loop-test .taken)) (s .result) _ _ _ _ _ _ (s .ensures) (c .if2 .taken)
+
+add-count : tie.Need-add-count Inv-loop μ-loop
+add-count c = record { fits = omega (arith, c .before .before .before .before .before .before .before .before .before .before .before .before .before .before .before .loop .inv .counted) }
+
+sub-left : tie.Need-sub-left Inv-loop μ-loop
+sub-left c = search needs
+
+loop-less : tie.Need-loop-less Inv-loop μ-loop
+loop-less c = search needs
+
+loop-again : tie.Need-loop-again Inv-loop μ-loop
+loop-again c =
+    let k = c .before .before .before .before .before .before .before .before .before .before .before .before .before .before .before .before .before .before in
+    let s = c .before .before .before .before .before .before .before .still-step in
+    run-on (most k) (lent k) (c .before .before .before .before .before .before .before .before .before .before .before .before .before .before .before .loop .inv) (omega (arith, c .before .before .before .before .before .before .before .before .before .before .before .before .before .before .loop-test .taken)) (s .result) _ _ _ _ _ _ (s .ensures) (c .if2 .left) (s .kept .1 .1 .1 .1 .1 .1 .0) (s .kept .1 .1 .1 .1 .1 .1 .1 .0) (s .kept .1 .1 .1 .1 .1 .1 .1 .1 .0) (s .kept .1 .1 .1 .1 .1 .1 .1 .1 .1 .0) (s .kept .1 .1 .1 .1 .1 .1 .1 .1 .1 .1 .0)
+
+at-end-requires : tie.Need-at-end-requires Inv-loop μ-loop
+at-end-requires c κs = search needs
+
+same-length-11 : tie.Need-same-length-11 Inv-loop μ-loop
+same-length-11 c = search needs
+
+same-length-12 : tie.Need-same-length-12 Inv-loop μ-loop
+same-length-12 c = search needs
+
+same-length-13 : tie.Need-same-length-13 Inv-loop μ-loop
+same-length-13 c = search needs
+
+same-length-14 : tie.Need-same-length-14 Inv-loop μ-loop
+same-length-14 c = search needs
+
+same-length-15 : tie.Need-same-length-15 Inv-loop μ-loop
+same-length-15 c = search needs
+
+returns-3 : tie.Need-returns-3 Inv-loop μ-loop
+returns-3 c =
+    let l = c .before .before in
+    let k = l .before .before .before in
+    ap (λ a. leaves a (now (most k) (lent k) (l .loop .accepted) (l .loop .e) (l .loop .u) (l .loop .v) (l .loop .q) (l .loop .f))) (c .at-end .ensures)
+    ∙ run-ends (most k) (lent k) (l .loop .inv) (omega (arith, c .before .loop-test .left))
+
+pub run-for-spec : {M : Type 1} → statement M
+run-for-spec =
+    tie.close
+    (tie.spec
+    Inv-loop
+    μ-loop
+    check-requires
+    refused-requires
+    same-length
+    same-length-2
+    same-length-3
+    same-length-4
+    same-length-5
+    returns
+    sub-fewer
+    fewer-requires
+    loop-holds
+    still-step-requires
+    same-length-6
+    same-length-7
+    same-length-8
+    same-length-9
+    same-length-10
+    returns-2
+    add-count
+    sub-left
+    loop-less
+    loop-again
+    at-end-requires
+    same-length-11
+    same-length-12
+    same-length-13
+    same-length-14
+    same-length-15
+    returns-3)

@@ -1,0 +1,4 @@
+pub mod Put
+pub mod Decimal
+pub mod Sums
+pub mod Lines

@@ -1,0 +1,132 @@
+/* pathpetal.h: waves along one closed channel, over the bytes of a channel file.
+
+   Every call takes numbers and byte strings and gives one number back. A channel lives in the bytes of its file
+   and nowhere else: read a file into memory, call, write the bytes out again. No call allocates, keeps a pointer,
+   prints, or touches a byte outside the strings that it is given.
+
+   Every call ends, for any bytes of any length, in the rule's result or in one numbered refusal, and a refused
+   call leaves every byte as it was.
+
+   THE ANSWER is one 64-bit number: count * 65536 + number * 256 + stage.
+     number  0 when the call did what was asked, else why it did not: see the list below
+     stage   where in a step it was refused: 0 for the prediction and for everything before it, 1 to 10 for that
+             correction; 0 in all other calls
+     count   of a step: how many corrections it took, 1 to 10; of a run: how many steps it accepted, also when it
+             then met a refusal; else 0
+
+   THE FILE of a channel of n cells has 24 + 64 * n bytes, little-endian: twelve 4-byte counts (edition 1, cells,
+   cell width in mm, time step in ms, steps accepted, steps wanted, and where the six rows start), then the rows:
+   depth in mm, height above still water in um, velocity in um/s, reduced velocity in um/s (4 bytes a cell,
+   signed), flux in um2/s (3 levels of n - 1 faces) and acceleration in um/s2 (3 levels of n cells; 8 bytes each,
+   signed). It is complete exactly when as many steps are accepted as are wanted: pathpetal_complete asks that.
+
+   C99 and C++. Link with libpathpetal.a. Calls may run at the same time on different bytes. */
+#ifndef PATHPETAL_H
+#define PATHPETAL_H
+
+#include <stddef.h>
+#include <stdint.h>
+
+#ifdef __cplusplus
+extern "C" {
+#endif
+
+/* Why a call did not do what was asked. */
+enum pathpetal_reason {
+    PATHPETAL_DONE = 0,
+    PATHPETAL_SHAPE = 1,      /* not 8 to 256 cells, or a row beside the file has not one entry for each cell */
+    PATHPETAL_COUNTS = 2,     /* cell width not 10 to 5,000 mm, time step not 1 to 100 ms, steps wanted not 1 to
+                                 1,000,000, or more accepted than wanted */
+    PATHPETAL_VALUE = 3,      /* a depth not 1 to 20,000 mm, a height or a velocity beyond 20 m or 20 m/s, a
+                                 poured amount beyond 1 m, or another stored value out of its range */
+    PATHPETAL_DEPTH = 4,      /* a cell has less than 1 mm of water: it fell dry, or nearly so */
+    PATHPETAL_DOMINANCE = 5,  /* the bottom is too steep for cells this narrow: take wider cells or smooth it */
+    PATHPETAL_PIVOT = 6,      /* the velocities cannot be worked out; no file is known that meets this */
+    PATHPETAL_SPEED = 7,      /* the water became faster than 20 m/s */
+    PATHPETAL_HEIGHT = 8,     /* the water rose or fell by more than 20 m */
+    PATHPETAL_FLUX = 9,       /* more water through a face than the file can hold */
+    PATHPETAL_UNSETTLED = 10, /* ten corrections did not settle: take a shorter time step or wider cells */
+    PATHPETAL_COMPLETE = 11,  /* all wanted steps are already taken: nothing is left to step or filter */
+    PATHPETAL_LENGTH = 12,    /* the file is cut short, too long, or no channel file */
+    PATHPETAL_EDITION = 13,   /* not a channel file of edition 1 */
+    PATHPETAL_OFFSETS = 14,   /* the file's rows do not stand where they must */
+    PATHPETAL_BUFFER = 15,    /* the room for the file is not exactly 24 + 64 * cells bytes */
+    PATHPETAL_MORE = 16       /* a run only: as many steps were taken as this call allowed, and the channel is not
+                                 complete; call again to go on */
+};
+
+/* Makes the file of a new channel, with no step accepted, in the file_len bytes at file: exactly
+   pathpetal_length(cells). depths, heights and velocities hold 4 bytes for each cell, signed and little-endian
+   (mm, um, um/s). Refused: 1, 2, 3, 4, 5, 15, 7, 9, the first that holds in this order. */
+uint64_t pathpetal_make(uint64_t cells, uint64_t width_mm, uint64_t step_ms, uint64_t wanted,
+                        const uint8_t *depths, size_t depths_len,
+                        const uint8_t *heights, size_t heights_len,
+                        const uint8_t *velocities, size_t velocities_len,
+                        uint8_t *file, size_t file_len);
+
+/* Whether these bytes are a channel file that every other call will take. Refused: 12 (shorter than its head), 13,
+   1, 12 (not the length for its cells), 14, 2, 3, 4, 5. */
+uint64_t pathpetal_check(const uint8_t *file, size_t file_len);
+
+/* One step, with an amount of water poured into each cell: poured holds 4 bytes for each cell (um, within
+   1,000,000), all zeros to pour nothing. The file becomes that of the channel after the step. Refused as by
+   pathpetal_check, the poured row's length with 1 and its amounts with 3; then 11; then at a stage 8, 4, 7, 6, 7,
+   9; then 10. */
+uint64_t pathpetal_step(uint8_t *file, size_t file_len, const uint8_t *poured, size_t poured_len);
+
+/* One filter pass: smooths what is only a few cells long, and moves no water in or out. Refused as by
+   pathpetal_check; then 11; then 8, 4, 7, 6, 7, 9. */
+uint64_t pathpetal_filter(uint8_t *file, size_t file_len);
+
+/* Steps with nothing poured, until the channel is complete, a step is refused, or `most` steps were accepted by
+   this call: a host calls again and again, and may stop, save or show the file between calls. The file keeps every
+   accepted step. number is 0 exactly when the channel is complete; 16 when it is not and no step was refused; else
+   the refused step's number, with its stage; and count is what this call accepted. Bytes that pathpetal_check
+   refuses are refused by the same number and stay as they are. */
+uint64_t pathpetal_run(uint8_t *file, size_t file_len, uint64_t most);
+
+/* The parts of an answer. */
+static inline unsigned pathpetal_number(uint64_t answer) { return (unsigned)(answer / 256 % 256); }
+static inline unsigned pathpetal_stage(uint64_t answer) { return (unsigned)(answer % 256); }
+static inline uint64_t pathpetal_count(uint64_t answer) { return answer / 65536; }
+
+/* The length of a channel's file. */
+static inline size_t pathpetal_length(size_t cells) { return 24 + 64 * cells; }
+
+/* Reading from the bytes of a file that pathpetal_check takes. */
+static inline uint32_t pathpetal_word(const uint8_t *at)
+{
+    return (uint32_t)at[0] | (uint32_t)at[1] << 8 | (uint32_t)at[2] << 16 | (uint32_t)at[3] << 24;
+}
+static inline int32_t pathpetal_signed(const uint8_t *at)
+{
+    uint32_t n = pathpetal_word(at);
+    return n < 0x80000000u ? (int32_t)n : -1 - (int32_t)(0xFFFFFFFFu - n);
+}
+static inline uint32_t pathpetal_cells(const uint8_t *file) { return pathpetal_word(file + 4); }
+static inline uint32_t pathpetal_width_mm(const uint8_t *file) { return pathpetal_word(file + 8); }
+static inline uint32_t pathpetal_step_ms(const uint8_t *file) { return pathpetal_word(file + 12); }
+static inline uint32_t pathpetal_accepted(const uint8_t *file) { return pathpetal_word(file + 16); }
+static inline uint32_t pathpetal_wanted(const uint8_t *file) { return pathpetal_word(file + 20); }
+static inline int pathpetal_complete(const uint8_t *file)
+{
+    return pathpetal_accepted(file) == pathpetal_wanted(file);
+}
+/* of cell 0 to cells - 1 */
+static inline int32_t pathpetal_depth_mm(const uint8_t *file, size_t cell)
+{
+    return pathpetal_signed(file + 48 + 4 * cell);
+}
+static inline int32_t pathpetal_height_um(const uint8_t *file, size_t cell)
+{
+    return pathpetal_signed(file + 48 + 4 * (size_t)pathpetal_cells(file) + 4 * cell);
+}
+static inline int32_t pathpetal_velocity_um_s(const uint8_t *file, size_t cell)
+{
+    return pathpetal_signed(file + 48 + 8 * (size_t)pathpetal_cells(file) + 4 * cell);
+}
+
+#ifdef __cplusplus
+}
+#endif
+#endif
