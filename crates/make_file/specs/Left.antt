@@ -1,0 +1,115 @@
+-- Making over the bytes of a channel file: the channel that make leaves in lent rows is the one that is written. Assumes nothing.
+use Prim.Native.Nat.{ℕ, _*_, _≤_}
+use mathlib.Core.Path.{_≡_, sym, _∙_, ap}
+use mathlib.Core.Bool.{true, _&&_}
+use mathlib.Core.List.{List, []}
+use borrow.Author.Tests.{eq-eqb, eqb-true}
+use lib.ListN.{length, take}
+use Rattle.whole.specs.Row.{padded}
+use Rattle.rule.specs.declared.Answer.{Answer}
+use Rattle.rule.specs.Rows.{Row}
+use Rattle.rule.specs.Ranges.{cellsAllowed}
+use Rattle.rule.specs.Channel.{Channel, rows}
+use Rattle.rule.specs.Refusals.{Outcome, refused, done, number, _>>=_, require}
+use Rattle.rule.specs.Make.{make}
+use Rattle.rule.specs.Bytes.{rowAt}
+use Rattle.rule.specs.File.{fileOf, lengthOf}
+use Rattle.rule.specs.Calls.{Called, called, plainly, fit, makeCall, rowIn, holds}
+use Rattle.checks.specs.Tests.{both, lengths-are}
+use Rattle.checks.specs.Numbers.{number-not-0}
+use Rattle.checks.specs.Facts.{Lengths, cells-few}
+use Rattle.checks.specs.Made.{Makeable}
+use Rattle.answers.specs.Stages.{leaves}
+use Rattle.reader.specs.Reader.{fitsIn}
+use Rattle.reader.specs.Held.{poured-is, four-cut}
+use Rattle.water.specs.Starts.{make-passes}
+use Rattle.writer.specs.Asked.{Writable, writable-of}
+use Rattle.writer.specs.Left.{leavesBytes}
+use Rattle.make_file.specs.Order.{filed}
+
+-- n cells, their rows, and a buffer of their file's length
+pub record Fitting (n : ℕ) (h e u : Row) (s : List ℕ) : Type 0 where
+  pub least : 8 ≤ n
+  pub most : n ≤ 256
+  pub h-long : length h ≡ n
+  pub e-long : length e ≡ n
+  pub u-long : length u ≡ n
+  pub sized : length s ≡ lengthOf n
+
+pub fitting-of : (n X T wanted : ℕ) (h e u : Row) (s : List ℕ) → Makeable n X T wanted h e u × (length s ≡ lengthOf n) → Fitting n h e u s
+fitting-of n X T wanted h e u s p =
+    let c = p .0 .cells in
+    record { least = c .least; most = c .most; h-long = c .h-long; e-long = c .e-long; u-long = c .u-long; sized = p .1 }
+
+-- lent rows of a channel's lengths are not refused
+fits : (c : Channel) → Lengths (c .N) (c .h) (c .e) (c .u) (c .v) (c .Q) (c .F) → fit c (c .N) ≡ true
+unfolding fit rows
+fits c l =
+    sym (lengths-are (c .N) (c .h) (c .e) (c .u) (c .v) (c .Q) (c .F))
+    ∙ rw (eq-eqb _ _ (l .h-long), eq-eqb _ _ (l .e-long), eq-eqb _ _ (l .u-long), eq-eqb _ _ (l .v-long), eq-eqb _ _ (l .Q-long), eq-eqb _ _ (l .F-long))
+
+-- an outcome m of a call on the lent channel, told by its answer r and by the channel c that it leaves
+module _ (lent c : Channel) (r : Answer) (s : List ℕ) where
+  refuses : (m : Outcome Channel) → leaves r c ≡ plainly lent m → (r .number ≡ 0 → ⊥) → leavesBytes r s ≡ filed s m
+  unfolding plainly filed called
+  refuses (refused why k) p z = ap (λ (t : Called Channel). leavesBytes (t .answer) s) p
+  refuses (done b) p z = absurd (z (ap (λ (t : Called Channel). t .answer .number) p))
+
+  makes : (m : Outcome Channel) → leaves r c ≡ plainly lent m → r .number ≡ 0 → m ≡ done c
+  unfolding plainly called
+  makes (refused why k) p z = absurd (number-not-0 why (sym (ap (λ (t : Called Channel). t .answer .number) p) ∙ z))
+  makes (done b) p z = ap (λ (t : Called Channel). done (t .left)) (sym p)
+
+  files : (m : Outcome Channel) (after : List ℕ) → leaves r c ≡ plainly lent m → r .number ≡ 0 → after ≡ fileOf c → leavesBytes r after ≡ filed s m
+  unfolding plainly filed called
+  files (refused why k) after p z q = absurd (number-not-0 why (sym (ap (λ (t : Called Channel). t .answer .number) p) ∙ z))
+  files (done b) after p z q =
+      (λ i. leavesBytes (p i .answer) (q i)) ∙ ap (λ (t : Called Channel). leavesBytes (record { number = 0; stage = 0; count = 0 }) (fileOf (t .left))) p
+
+-- of make, on lent rows of the lengths that it asks
+module _ (lent c : Channel) (r : Answer) (s : List ℕ) (is : leaves r c ≡ makeCall lent) (long : Lengths (lent .N) (lent .h) (lent .e) (lent .u) (lent .v) (lent .Q) (lent .F)) where
+  abbrev made : Outcome Channel
+  made = make (lent .N) (lent .X) (lent .T) (lent .wanted) (lent .h) (lent .e) (lent .u)
+
+  told : leaves r c ≡ plainly lent made
+  unfolding makeCall require _>>=_
+  told = is ∙ rw (fits lent long)
+
+  pub made-refused : (r .number ≡ 0 → ⊥) → leavesBytes r s ≡ filed s made
+  made-refused z = refuses lent c r s made told z
+
+  pub made-writable : r .number ≡ 0 → Writable (c .N) (c .h) (c .e) (c .u) (c .v) (c .Q) (c .F)
+  made-writable z = writable-of c [] (make-passes (lent .N) (lent .X) (lent .T) (lent .wanted) (lent .h) (lent .e) (lent .u) c (makes lent c r s made told z))
+
+  pub made-filed : (after : List ℕ) → r .number ≡ 0 → after ≡ fileOf c → leavesBytes r after ≡ filed s made
+  made-filed after z q = files lent c r s made after told z q
+
+-- rows of n entries in bytes
+pub record Held (n : ℕ) (h e u : List ℕ) : Type 0 where
+  pub least : 8 ≤ n
+  pub most : n ≤ 256
+  pub hold : holds h n && holds e n && holds u n ≡ true
+  pub h-bytes : length h ≡ 4 * n
+  pub e-bytes : length e ≡ 4 * n
+  pub u-bytes : length u ≡ 4 * n
+
+pub held-of : (n : ℕ) (h e u : List ℕ) → cellsAllowed n && (holds h n && holds e n && holds u n) ≡ true → Held n h e u
+unfolding holds
+held-of n h e u z =
+    let p = both (cellsAllowed n) (holds h n && holds e n && holds u n) z in
+    let q = both (holds h n && holds e n) (holds u n) (p .1) in
+    let r = both (holds h n) (holds e n) (q .0) in
+    let few = cells-few n (p .0) in
+    record {
+      least = few .0;
+      most = few .1;
+      hold = p .1;
+      h-bytes = eqb-true (length h) (4 * n) (r .0);
+      e-bytes = eqb-true (length e) (4 * n) (r .1);
+      u-bytes = eqb-true (length u) (4 * n) (q .1);
+    }
+
+-- a row that was read into an array, cut to its length
+pub row-read : (p : List ℕ) (n : ℕ) {array : Row} → length p ≡ 4 * n → array ≡ padded n (rowAt 4 p 0 n) → take n array ≡ rowIn p
+unfolding fitsIn holds
+row-read p n e q = four-cut p 0 n q ∙ poured-is p n (eq-eqb (length p) (4 * n) e)

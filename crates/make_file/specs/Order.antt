@@ -1,0 +1,125 @@
+-- Making over the bytes of a channel file: its order, 1 to 5, then 15, then the rest of make. Assumes nothing.
+use Prim.Native.Nat.{ℕ}
+use mathlib.Core.Path.{_≡_, refl, sym, _∙_, ap, subst}
+use mathlib.Core.Bool.{Bool, true, false, cond, _&&_}
+use mathlib.Core.List.{List}
+use native.Mathlib.Omega.{arith}
+use borrow.Author.Tests.{ne-eqb, eq-eqb, eqb-true}
+use lib.Dec.{eqb}
+use lib.ListN.{length}
+use Rattle.rule.specs.declared.Answer.{Answer}
+use Rattle.rule.specs.Rows.{Row}
+use Rattle.rule.specs.Ranges.{cellsAllowed, countsAllowed}
+use Rattle.rule.specs.Channel.{Channel}
+use Rattle.rule.specs.Refusals.{Outcome, refused, done, number, numberOf, _>>=_, require, shape, bufferLength}
+use Rattle.rule.specs.Checks.{wet}
+use Rattle.rule.specs.Make.{makeChecked, make}
+use Rattle.rule.specs.File.{fileOf, lengthOf}
+use Rattle.rule.specs.Calls.{Called, called, rowIn, holds, makeFile}
+use Rattle.checks.specs.Numbers.{number-not-0, done-of, Outside, outside-last, refused-of, passed-last}
+use Rattle.checks.specs.Facts.{valuesAllowed}
+use Rattle.checks.specs.Order.{order-outside, wet-outside}
+use Rattle.checks.specs.Made.{Makeable, shapePasses, makeChecked-is, makeable-of}
+use Rattle.answers.specs.Stages.{refusal}
+use Rattle.reader.specs.Opened.{first-done}
+use Rattle.writer.specs.Left.{leavesBytes}
+
+-- the first of two numbers that is not 0
+unfoldable pub firstOf : ℕ → ℕ → ℕ
+firstOf one other = cond (eqb one 0) other one
+
+-- 15: a buffer of `room` bytes, for n cells
+unfoldable pub bufferChecked : ℕ → ℕ → Outcome (Unit {0})
+bufferChecked n room = require (eqb room (lengthOf n)) bufferLength
+
+-- 1 to 5, then 15
+unfoldable pub tested : ℕ → ℕ → ℕ → ℕ → Row → Row → Row → ℕ → Outcome (Unit {0})
+tested n X T wanted h e u room = makeChecked n X T wanted h e u >>= λ _. bufferChecked n room
+
+-- the file of the channel that is made, in the buffer s
+unfoldable pub filed : List ℕ → Outcome Channel → Called (List ℕ)
+filed s m = called s (λ _. 0) fileOf m
+
+-- from rows of whole numbers
+unfoldable pub makeRows : ℕ → ℕ → ℕ → ℕ → Row → Row → Row → List ℕ → Called (List ℕ)
+makeRows n X T wanted h e u s = filed s (tested n X T wanted h e u (length s) >>= λ _. make n X T wanted h e u)
+
+-- the number of the first that is refused is the number of both
+pub first-is : {B : Type 0} (m : Outcome (Unit {0})) (f : Unit {0} → Outcome B) (one other : ℕ) → one ≡ numberOf m → other ≡ numberOf (f tt) → firstOf one other ≡ numberOf (m >>= f)
+unfolding _>>=_ numberOf firstOf
+first-is (refused r k) f one other p q = rw (ne-eqb one 0 (λ z. number-not-0 r (sym p ∙ z))) p
+first-is (done a) f one other p q = rw p q
+
+pub buffer-15 : (n room : ℕ) → (room ≡ lengthOf n → ⊥) → 15 ≡ numberOf (bufferChecked n room)
+unfolding bufferChecked require numberOf number
+buffer-15 n room z = rw (ne-eqb room (lengthOf n) z)
+
+pub buffer-0 : (n room : ℕ) → room ≡ lengthOf n → 0 ≡ numberOf (bufferChecked n room)
+unfolding bufferChecked require numberOf
+buffer-0 n room z = rw (eq-eqb room (lengthOf n) z)
+
+regroup : {A B C : Type 0} (m : Outcome A) (f : A → Outcome B) (g : B → Outcome C) → (m >>= λ a. f a >>= g) ≡ ((m >>= f) >>= g)
+unfolding _>>=_
+regroup (refused r k) f g = refl
+regroup (done a) f g = refl
+
+outside-then : {A B : Type 0} (m : Outcome A) (f : A → Outcome B) → Outside m → ((a : A) → Outside (f a)) → Outside (m >>= f)
+unfolding _>>=_
+outside-then (refused r k) f h g = h
+outside-then (done a) f h g = g a
+
+module _ (n X T wanted : ℕ) (h e u : Row) where
+  pub tested-is : (room one other : ℕ) → one ≡ numberOf (makeChecked n X T wanted h e u) → other ≡ numberOf (bufferChecked n room) → firstOf one other ≡ numberOf (tested n X T wanted h e u room)
+  unfolding tested
+  tested-is room one other p q = first-is (makeChecked n X T wanted h e u) (λ _. bufferChecked n room) one other p q
+
+  -- a refusal of an input or of a buffer has stage 0
+  tested-outside : (room : ℕ) → Outside (tested n X T wanted h e u room)
+  unfolding tested bufferChecked
+  tested-outside room =
+      outside-then (makeChecked n X T wanted h e u) _
+      (subst Outside (sym (makeChecked-is n X T wanted h e u)) (order-outside (shapePasses n h e u) (countsAllowed X T wanted 0) (valuesAllowed h e u) (wet n X h e) (wet-outside n X h e)))
+      (λ _. outside-last (eqb room (lengthOf n)) bufferLength)
+
+  -- what the tests let pass
+  pub passed-both : (room : ℕ) → numberOf (tested n X T wanted h e u room) ≡ 0 → Makeable n X T wanted h e u × (room ≡ lengthOf n)
+  unfolding tested bufferChecked
+  passed-both room z =
+      let p = first-done (makeChecked n X T wanted h e u) (λ _. bufferChecked n room) z in
+      (makeable-of n X T wanted h e u (p .0), eqb-true room (lengthOf n) (passed-last (eqb room (lengthOf n)) bufferLength (p .1)))
+
+  module _ (s : List ℕ) where
+    -- a test refuses
+    pub rows-refused : (k : ℕ) (r : Answer) → r ≡ refusal k 0 → k ≡ numberOf (tested n X T wanted h e u (length s)) → (k ≡ 0 → ⊥) → leavesBytes r s ≡ makeRows n X T wanted h e u s
+    unfolding makeRows filed called _>>=_
+    rows-refused k r a p z =
+        let y = refused-of (tested n X T wanted h e u (length s)) (tested-outside (length s)) (λ i. z (p ∙ i)) in
+        let q : k ≡ number (y .why) = p ∙ sym (y .numbered) in
+        rw (y .is) (ap (λ b. leavesBytes b s) (a ∙ ap (λ j. refusal j 0) q))
+
+    -- and none does
+    pub rows-pass : numberOf (tested n X T wanted h e u (length s)) ≡ 0 → filed s (make n X T wanted h e u) ≡ makeRows n X T wanted h e u s
+    unfolding makeRows _>>=_
+    rows-pass z = rw (done-of (tested n X T wanted h e u (length s)) z)
+
+-- 1, of N and of rows in bytes
+unfit : (s : List ℕ) (r : Answer) (a b : Bool) (m : Outcome Channel) → r ≡ refusal 1 0 → (a ≡ false → m ≡ refused shape 0) → a && b ≡ false → leavesBytes r s ≡ filed s (require b shape >>= λ _. m)
+unfolding require _>>=_ filed called number
+unfit s r a false m e p z = ap (λ b. leavesBytes b s) e
+unfit s r false true m e p z = rw (p refl) (ap (λ b. leavesBytes b s) e)
+unfit s r true true m e p z = let y : _≡_ {A = ℕ} 0 1 = cc z in absurd (omega arith)
+
+module _ (n X T wanted : ℕ) (h e u s : List ℕ) where
+  abbrev allHold : Bool
+  allHold = holds h n && holds e n && holds u n
+
+  pub file-unfit : (r : Answer) → r ≡ refusal 1 0 → cellsAllowed n && allHold ≡ false → leavesBytes r s ≡ makeFile n X T wanted h e u s
+  unfolding makeFile filed makeChecked require _>>=_
+  file-unfit r a z = unfit s r (cellsAllowed n) allHold _ a (λ i. rw i) z
+
+  pub file-fit : allHold ≡ true → makeRows n X T wanted (rowIn h) (rowIn e) (rowIn u) s ≡ makeFile n X T wanted h e u s
+  unfolding makeFile makeRows filed tested bufferChecked require _>>=_
+  file-fit z =
+      rw z
+      (ap (called s (λ _. 0) fileOf)
+      (sym (regroup (makeChecked n X T wanted (rowIn h) (rowIn e) (rowIn u)) (λ _. bufferChecked n (length s)) (λ _. make n X T wanted (rowIn h) (rowIn e) (rowIn u)))))

@@ -1,0 +1,199 @@
+// Making over the bytes of a channel file: 1 to 5, then 15, then the rest of make.
+ghost use mathlib.Core.Path.{_≡_};
+ghost use mathlib.Core.Bool.{_&&_};
+ghost use Prim.Native.Nat.{_≤_};
+ghost use lib.ListN.{length};
+ghost use Rattle.rule.specs.Ranges.{cellsAllowed};
+ghost use Rattle.rule.specs.Refusals.{numberOf};
+ghost use Rattle.rule.specs.File.{lengthOf};
+ghost use Rattle.rule.specs.Calls.{holds, makeFile};
+ghost use Rattle.rule.specs.Make as rule;
+ghost use Rattle.answers.specs.Stages.{refusal};
+ghost use Rattle.checks.specs.Facts.{Lengths};
+ghost use Rattle.writer.specs.Left.{leavesBytes};
+ghost use Rattle.make_file.specs.Order.{firstOf, bufferChecked, tested, filed, makeRows};
+ghost use Rattle.make_file.specs.Left.{Fitting};
+
+// 1: N, and the bytes of the rows. N is tested first, so that 4N does not wrap.
+fn shape_passes(n: u64, h: &[u8], e: &[u8], u: &[u8]) -> bool
+    ensures { λ r. ⌜ r ≡ cellsAllowed n && (holds (now (h .entry)) n && holds (now (e .entry)) n && holds (now (u .entry)) n) ⌝ }
+{
+    if n < 8 {
+        return false;
+    }
+    if n > 256 {
+        return false;
+    }
+    let bytes = 4 * n as usize;
+    (h.len() == bytes) & (e.len() == bytes) & (u.len() == bytes)
+}
+
+// 15, or 0 where `room` is the length of a file of n cells.
+fn check_buffer(n: usize, room: usize) -> u64
+    requires { ⌜ n ≤ 256 ⌝ }
+    ensures { λ r. ⌜ r ≡ numberOf (bufferChecked n room) ⌝ }
+{
+    if room != 24 + 64 * n {
+        return 15;
+    }
+    0
+}
+
+// The first of two numbers that is a refusal's, or 0.
+fn first(one: u64, other: u64) -> u64
+    ensures { λ r. ⌜ r ≡ firstOf one other ⌝ }
+{
+    if one != 0 {
+        return one;
+    }
+    other
+}
+
+// 1 to 5, then 15: 0, or the number of the first that fails.
+fn check(n: usize, x: u64, t: u64, wanted: u64, h: &[i64], e: &[i64], u: &[i64], room: usize) -> u64
+    requires { ⌜ n ≤ 256 ⌝ }
+    ensures { λ r. ⌜ r ≡ numberOf (tested n x t wanted (now (h .entry)) (now (e .entry)) (now (u .entry)) room) ⌝ }
+{
+    let input = checks::check_made(n, x, t, wanted, h, e, u);
+    let length = check_buffer(n, room);
+    first(input, length)
+}
+
+// A refusal before any stage.
+fn refused(number: u64) -> rule::Answer
+    ensures { λ r. ⌜ r ≡ refusal number 0 ⌝ }
+{
+    rule::Answer {
+        number,
+        stage: 0,
+        count: 0,
+    }
+}
+
+// An array for a row of up to 256 entries.
+fn cells_room() -> [i64; 256]
+    ensures { λ r. ⌜ length r ≡ 256 ⌝ }
+{
+    [0; 256]
+}
+
+// An array for three levels of up to 256 entries.
+fn levels_room() -> [i64; 768]
+    ensures { λ r. ⌜ length r ≡ 768 ⌝ }
+{
+    [0; 768]
+}
+
+// The file of the channel that is made of h, e and u, where it is made. The rows v, q and f are filled on the way.
+fn make_in(
+    n: usize,
+    x: u64,
+    t: u64,
+    wanted: u64,
+    h: &[i64],
+    e: &[i64],
+    u: &[i64],
+    v: &mut [i64],
+    q: &mut [i64],
+    f: &mut [i64],
+    file: &mut [u8],
+) -> rule::Answer
+    requires { ⌜ (length (now file) ≡ lengthOf n) × Lengths n (now h) (now e) (now u) (now v) (now q) (now f) ⌝ }
+    ensures { λ r. ⌜ leavesBytes r (now (file .exit)) ≡ filed (now (file .entry)) (rule.make n x t wanted (now (h .entry)) (now (e .entry)) (now (u .entry))) ⌝ }
+{
+    let mut accepted = 0;
+    let answer = make::make(n, x, t, &mut accepted, wanted, h, e, u, v, q, f);
+    if answer.number != 0 {
+        return answer;
+    }
+    writer::put(file, n, x, t, accepted, wanted, h, e, u, v, q, f);
+    answer
+}
+
+// The same, with rows of its own for what is made.
+fn make_fitting(
+    n: usize,
+    x: u64,
+    t: u64,
+    wanted: u64,
+    h: &[i64],
+    e: &[i64],
+    u: &[i64],
+    file: &mut [u8],
+) -> rule::Answer
+    requires { ⌜ Fitting n (now h) (now e) (now u) (now file) ⌝ }
+    ensures { λ r. ⌜ leavesBytes r (now (file .exit)) ≡ filed (now (file .entry)) (rule.make n x t wanted (now (h .entry)) (now (e .entry)) (now (u .entry))) ⌝ }
+{
+    let faces = 3 * (n - 1);
+    let cells = 3 * n;
+    let mut v = cells_room();
+    let mut q = levels_room();
+    let mut f = levels_room();
+    make_in(
+        n,
+        x,
+        t,
+        wanted,
+        h,
+        e,
+        u,
+        &mut v[..n],
+        &mut q[..faces],
+        &mut f[..cells],
+        file,
+    )
+}
+
+// From rows of whole numbers.
+fn make_rows(
+    n: usize,
+    x: u64,
+    t: u64,
+    wanted: u64,
+    h: &[i64],
+    e: &[i64],
+    u: &[i64],
+    file: &mut [u8],
+) -> rule::Answer
+    requires { ⌜ n ≤ 256 ⌝ }
+    ensures { λ r. ⌜ leavesBytes r (now (file .exit)) ≡ makeRows n x t wanted (now (h .entry)) (now (e .entry)) (now (u .entry)) (now (file .entry)) ⌝ }
+{
+    let number = check(n, x, t, wanted, h, e, u, file.len());
+    if number != 0 {
+        return refused(number);
+    }
+    make_fitting(n, x, t, wanted, h, e, u, file)
+}
+
+// The channel of N, X, T, wanted and the rows h, e and u, written into a buffer of exactly its file's length. A row has four
+// bytes for each entry. A refused call leaves the buffer as it was.
+pub fn make(
+    n: u64,
+    x: u64,
+    t: u64,
+    wanted: u64,
+    h: &[u8],
+    e: &[u8],
+    u: &[u8],
+    file: &mut [u8],
+) -> rule::Answer
+    ensures { λ r. ⌜ leavesBytes r (now (file .exit)) ≡ makeFile n x t wanted (now (h .entry)) (now (e .entry)) (now (u .entry)) (now (file .entry)) ⌝ }
+{
+    if !shape_passes(n, h, e, u) {
+        return refused(1);
+    }
+    let cells = n as usize;
+    let depths = little::read_row4(h, 0, cells);
+    let heights = little::read_row4(e, 0, cells);
+    let velocities = little::read_row4(u, 0, cells);
+    make_rows(
+        cells,
+        x,
+        t,
+        wanted,
+        &depths[..cells],
+        &heights[..cells],
+        &velocities[..cells],
+        file,
+    )
+}

@@ -1,0 +1,5 @@
+pub mod Arrays
+pub mod Kept
+pub mod Ways
+pub mod Ran
+pub mod Stays

@@ -1,0 +1,117 @@
+"""Known answers of wave theory, in metres and seconds.
+
+Equations and sections are those of Wei and Kirby, 'Simulation of water waves by Boussinesq models', Research Report
+CACR-98-02, University of Delaware, 1998, unless another source is named."""
+import cmath
+import math
+
+G = 9.81
+LEVEL = -0.531  # the reference level over the depth
+ALPHA = LEVEL * (LEVEL / 2 + 1)  # (B.3): -0.3900195
+ALPHA1 = ALPHA + 1 / 3
+
+
+def airy(k, h):
+    """Angular frequency of a wave of number k in water of depth h, exact linear theory (5.15)."""
+    return math.sqrt(G * k * math.tanh(k * h))
+
+
+def boussinesq(k, h, alpha):
+    """The same by Boussinesq equations with the coefficient alpha (5.18)."""
+    kh2 = (k * h) ** 2
+    return k * math.sqrt(G * h * (1 - (alpha + 1 / 3) * kh2) / (1 - alpha * kh2))
+
+
+def nwogu(k, h):
+    return boussinesq(k, h, ALPHA)
+
+
+def peregrine(k, h):
+    return boussinesq(k, h, -1 / 3)
+
+
+def long_wave(k, h):
+    return k * math.sqrt(G * h)
+
+
+def on_grid(k, h, x):
+    """The same by Nwogu's equations with space differences over cells of width x, exact in time: (3.60) to (3.63)."""
+    t = k * x
+    slope = math.sin(t) * (4 - math.cos(t)) / 3 / x
+    bend = 4 * math.sin(t / 2) ** 2 / x ** 2
+    third = math.sin(t) / x * bend
+    flux = h * slope - ALPHA1 * h ** 3 * third
+    return math.sqrt(G * slope * flux / (1 - ALPHA * h ** 2 * bend))
+
+
+def step_weights(z, corrections):
+    """A step of y' = z y (time step 1) is y' = c0 y + c1 y(-1) + c2 y(-2): c0, c1, c2, by (3.56) and (3.69)."""
+    c = [1 + 23 * z / 12, -16 * z / 12, 5 * z / 12]
+    for _ in range(corrections):
+        c = [1 + 19 * z / 24 + 9 * z / 24 * c[0], -5 * z / 24 + 9 * z / 24 * c[1], z / 24 + 9 * z / 24 * c[2]]
+    return c
+
+
+def step_factor(angle, corrections):
+    """What one step multiplies a wave by that should turn by angle: the root that is nearest to exp(i angle)."""
+    z = 1j * angle
+    c0, c1, c2 = step_weights(z, corrections)
+    y = cmath.exp(z)
+    for _ in range(60):
+        y -= (y ** 3 - c0 * y ** 2 - c1 * y - c2) / (3 * y ** 2 - 2 * c0 * y - c1)
+    return y
+
+
+def largest_factor(angle, corrections):
+    """The largest size of the three factors of a step: above 1 something grows."""
+    c0, c1, c2 = step_weights(1j * angle, corrections)
+    roots = [1 + 0j, 0.4 + 0.9j, -0.65 + 0.72j]
+    for _ in range(200):
+        for i in range(3):
+            y, others = roots[i], 1
+            for j in range(3):
+                if j != i:
+                    others *= y - roots[j]
+            roots[i] = y - (y ** 3 - c0 * y ** 2 - c1 * y - c2) / others
+    return max(abs(y) for y in roots)
+
+
+def stepped(k, h, x, t, corrections):
+    """Angular frequency and growth factor a step of a wave as the scheme steps it, with that many corrections."""
+    y = step_factor(on_grid(k, h, x) * t, corrections)
+    return cmath.phase(y) / t, abs(y)
+
+
+def fastest_on_grid(h, x):
+    """The largest angular frequency that the cells can hold."""
+    return max(on_grid(math.pi * i / 400 / x, h, x) for i in range(1, 400))
+
+
+class Solitary:
+    """Appendix A: the approximate solitary wave of height H in depth h, its speed C by (A.19)."""
+
+    def __init__(self, H, h):
+        d, a, b = H / h, ALPHA, ALPHA1
+        q = 1 + d  # C² over gh, by Newton's rule
+        for _ in range(60):
+            f = 2 * a * q ** 3 - (3 * a + 1 / 3 + 2 * a * d) * q ** 2 + 2 * d * b * q + b
+            q -= f / (6 * a * q ** 2 - 2 * (3 * a + 1 / 3 + 2 * a * d) * q + 2 * d * b)
+        gh = G * h
+        C2 = q * gh
+        self.C = math.sqrt(C2)
+        self.A = (C2 - gh) / self.C  # (A.22) to (A.25)
+        self.B = math.sqrt((C2 - gh) / (4 * (b * gh * h ** 2 - a * h ** 2 * C2)))
+        self.A1 = (C2 - gh) / (3 * (b * gh - a * C2)) * h
+        self.A2 = -(C2 - gh) ** 2 / (2 * gh * C2) * (b * gh + 2 * a * C2) / (b * gh - a * C2) * h
+
+    def height(self, x):
+        s = 1 / math.cosh(self.B * x) ** 2
+        return self.A1 * s + self.A2 * s * s
+
+    def velocity(self, x):
+        return self.A / math.cosh(self.B * x) ** 2
+
+
+def filter_factor(cells):
+    """What a filter pass multiplies a wave of that many cells by (3.123)."""
+    return 1 - math.sin(math.pi / cells) ** 8

@@ -1,0 +1,39 @@
+"""validate.py [--quick] OUT COMMAND..: known answers and limits, through the driver that COMMAND starts.
+Prints measured beside expected; without --quick also measures the limits and writes the pictures into OUT."""
+import os
+import sys
+
+from channels import Drive
+from report import Report
+import known
+import limits
+
+
+def measure(report, check, *given):
+    """Runs a part of the table. Channels far from any answer may leave nothing to measure: that is a failure too."""
+    try:
+        check(*given)
+    except (ArithmeticError, IndexError, StopIteration, ValueError) as error:
+        report.exact(f"the part '{check.__name__}' can be measured", False, repr(error))
+
+
+def main():
+    words = sys.argv[1:]
+    quick = words[:1] == ["--quick"]
+    out, command = words[quick], words[quick + 1:]
+    os.makedirs(out, exist_ok=True)
+    drive, report = Drive(command), Report()
+    print("each line: what, measured, expected, unit, how far apart")
+    for check in known.ALL:
+        measure(report, check, drive, report, not quick, out)
+    if not quick:
+        for check in limits.ALL:
+            measure(report, check, drive, report, out)
+    drive.close()
+    print(f"\n{drive.steps} steps taken")
+    print(f"{report.passed} passed, {report.failed} failed")
+    return report.failed != 0
+
+
+if __name__ == "__main__":
+    sys.exit(main())
