@@ -1,0 +1,106 @@
+-- The calls over the bytes of a channel file: an outcome of a call of `on_file::step`, `filter`, `run_for` or `check`, or of
+-- `make_file::make`, any that its contract permits.
+use Prim.Native.Nat.{ℕ}
+use mathlib.Core.List.{List}
+use contract.Lifetimes.{Lfts}
+use denote.Ref.{now}
+use denote.Triple.Clauses.{AtExit}
+use borrow.Fn.Kinds.{Dens, resT, endedOf}
+use Rattle.rule.specs.declared.Answer.{Answer}
+use Rattle.on_file.proofs.step.Kinds as step-kinds
+use Rattle.on_file.proofs.step.Reads as step-reads
+use Rattle.on_file.proofs.filter.Kinds as filter-kinds
+use Rattle.on_file.proofs.filter.Reads as filter-reads
+use Rattle.on_file.proofs.run_for.Kinds as run-for-kinds
+use Rattle.on_file.proofs.run_for.Reads as run-for-reads
+use Rattle.on_file.proofs.check.Kinds as check-kinds
+use Rattle.on_file.proofs.check.Reads as check-reads
+use Rattle.make_file.proofs.make.Kinds as make-kinds
+use Rattle.make_file.proofs.make.Reads as make-reads
+
+pub record Step : Type 0 where
+  pub κs : Lfts 2
+  pub a : Dens κs step-kinds.ps
+  pub r : resT step-kinds.r κs .Denot
+  pub x : AtExit (endedOf 2 step-kinds.ps step-kinds.r) κs
+  pub permitted : step-reads.Post κs a r x
+
+pub record Filter : Type 0 where
+  pub κs : Lfts 1
+  pub a : Dens κs filter-kinds.ps
+  pub r : resT filter-kinds.r κs .Denot
+  pub x : AtExit (endedOf 1 filter-kinds.ps filter-kinds.r) κs
+  pub permitted : filter-reads.Post κs a r x
+
+pub record RunFor : Type 0 where
+  pub κs : Lfts 1
+  pub a : Dens κs run-for-kinds.ps
+  pub r : resT run-for-kinds.r κs .Denot
+  pub x : AtExit (endedOf 1 run-for-kinds.ps run-for-kinds.r) κs
+  pub permitted : run-for-reads.Post κs a r x
+
+pub record Check : Type 0 where
+  pub κs : Lfts 1
+  pub a : Dens κs check-kinds.ps
+  pub r : resT check-kinds.r κs .Denot
+  pub x : AtExit (endedOf 1 check-kinds.ps check-kinds.r) κs
+  pub permitted : check-reads.Post κs a r x
+
+pub record Make : Type 0 where
+  pub κs : Lfts 4
+  pub a : Dens κs make-kinds.ps
+  pub r : resT make-kinds.r κs .Denot
+  pub x : AtExit (endedOf 4 make-kinds.ps make-kinds.r) κs
+  pub permitted : make-reads.Post κs a r x
+
+-- the bytes of the file at entry and at exit, of the poured row, and the steps asked for
+module _ (o : Step) where
+  abbrev pub step-entry : List ℕ
+  step-entry = now (o .a .0)
+
+  abbrev pub step-exit : List ℕ
+  step-exit = now (o .x .0)
+
+  abbrev pub step-row : List ℕ
+  step-row = now (o .a .1 .0)
+
+  abbrev pub step-answer : Answer
+  step-answer = o .r
+
+module _ (o : Filter) where
+  abbrev pub filter-entry : List ℕ
+  filter-entry = now (o .a .0)
+
+  abbrev pub filter-exit : List ℕ
+  filter-exit = now (o .x .0)
+
+  abbrev pub filter-answer : Answer
+  filter-answer = o .r
+
+module _ (o : RunFor) where
+  abbrev pub run-for-most : ℕ
+  run-for-most = o .a .0
+
+  abbrev pub run-for-entry : List ℕ
+  run-for-entry = now (o .a .1 .0)
+
+  abbrev pub run-for-exit : List ℕ
+  run-for-exit = now (o .x .1 .0)
+
+  abbrev pub run-for-answer : Answer
+  run-for-answer = o .r
+
+module _ (o : Check) where
+  abbrev pub check-bytes : List ℕ
+  check-bytes = now (o .a .0)
+
+  abbrev pub check-answer : Answer
+  check-answer = o .r
+
+-- the buffer that is filled is the last of eight
+module _ (o : Make) where
+  abbrev pub make-exit : List ℕ
+  make-exit = now (o .x .1 .1 .1 .1 .1 .1 .1 .0)
+
+  abbrev pub make-answer : Answer
+  make-answer = o .r

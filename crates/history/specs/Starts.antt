@@ -1,0 +1,41 @@
+-- The channels that histories start from: an accepted outcome of the maker or of the reader passes the checks. Assumes nothing.
+use Prim.Native.Nat.{ℕ}
+use mathlib.Core.Path.{_≡_, refl, sym, _∙_, ap}
+use mathlib.Core.List.{List, []}
+use Rattle.rule.specs.Channel.{Channel}
+use Rattle.rule.specs.Refusals.{Outcome, refused, done, numberOf, shape}
+use Rattle.rule.specs.Checks.{checked}
+use Rattle.rule.specs.File.{readWith}
+use Rattle.rule.specs.Calls.{Called, called, plainly, fit, makeCall, readCall}
+use Rattle.checks.specs.Numbers.{number-not-0}
+use Rattle.checks.specs.Chain.{came-by}
+use Rattle.water.specs.Starts.{make-passes, read-passes}
+use Rattle.history.specs.Makes as makes
+use Rattle.history.specs.Reads as reads
+
+-- a call that answered 0 was done
+left-of : (c : Channel) (m : Outcome Channel) → ((d : Channel) → m ≡ done d → numberOf (checked d []) ≡ 0) → plainly c m .answer .number ≡ 0 → numberOf (checked (plainly c m .left) []) ≡ 0
+unfolding plainly called
+left-of c (refused r k) h z = absurd (number-not-0 r z)
+left-of c (done d) h z = h d refl
+
+make-call-passes : (c : Channel) → makeCall c .answer .number ≡ 0 → numberOf (checked (makeCall c .left) []) ≡ 0
+unfolding makeCall
+make-call-passes c =
+    left-of c _ (λ d e. make-passes (c .N) (c .X) (c .T) (c .wanted) (c .h) (c .e) (c .u) d (came-by (fit c (c .N)) shape _ d e .1))
+
+read-call-passes : (c : Channel) (s : List ℕ) → readCall c s .answer .number ≡ 0 → numberOf (checked (readCall c s .left) []) ≡ 0
+unfolding readCall
+read-call-passes c s = left-of c (readWith (fit c) [] s) (read-passes (fit c) s)
+
+pub make-starts : (o : makes.Make) → makes.answer o .number ≡ 0 → numberOf (checked (makes.exit o) []) ≡ 0
+make-starts o z =
+    let p = o .permitted in
+    ap (λ (k : Called Channel). numberOf (checked (k .left) [])) p
+    ∙ make-call-passes (makes.entry o) (sym (ap (λ (k : Called Channel). k .answer .number) p) ∙ z)
+
+pub read-starts : (o : reads.Read) → reads.answer o .number ≡ 0 → numberOf (checked (reads.exit o) []) ≡ 0
+read-starts o z =
+    let p = o .permitted in
+    ap (λ (k : Called Channel). numberOf (checked (k .left) [])) p
+    ∙ read-call-passes (reads.entry o) (reads.bytes o) (sym (ap (λ (k : Called Channel). k .answer .number) p) ∙ z)
