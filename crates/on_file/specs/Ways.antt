@@ -1,23 +1,23 @@
 -- The channel file: the ways out of a call over its bytes, whatever call it is. Assumes nothing.
-use Prim.Native.Nat.{ℕ, _+_, _*_}
+use Prim.Native.Nat.{ℕ}
 use mathlib.Core.Path.{_≡_, refl, sym, ap, _∙_, subst}
 use mathlib.Core.Bool.{Bool, true, false}
 use mathlib.Core.List.{List, [], _∷_}
-use lib.ListN.{length}
 use Rattle.rule.specs.declared.Answer.{Answer}
 use Rattle.rule.specs.Rows.{Row}
 use Rattle.rule.specs.Channel.{Channel}
 use Rattle.rule.specs.Refusals.{Outcome, refused, done, number, numberOf}
 use Rattle.rule.specs.File.{lengthOf, countOf, channelOf, readWith}
-use Rattle.rule.specs.Calls.{Called, called, onFile, read, rowIn, stepCall, filterCall, runForCall, checkFile, stepFile, filterFile, runForFile}
+use Rattle.rule.specs.Calls.{Called, called, onFile, rowIn, stepCall, filterCall, runForCall, checkFile, stepFile, filterFile, runForFile}
 use Rattle.answers.specs.Stages.{refusal}
 use Rattle.checks.specs.Numbers.{Outside}
 use Rattle.reader.specs.Reader.{fitsIn}
 use Rattle.reader.specs.Held.{cells-is}
-use Rattle.reader.specs.Opened.{Opened, opened-of, read-outside, read-refused, plain-read, poured-read}
-use Rattle.on_file.specs.declared.Arrays.{Arrays}
-use Rattle.on_file.specs.Arrays.{Right, cut, Holds}
-use Rattle.on_file.specs.Kept.{Room, leaving, filed, unpoured}
+use Rattle.reader.specs.Opened.{Opened, read-outside, read-refused, plain-read, poured-read}
+use Rattle.keep.specs.declared.Arrays.{Arrays}
+use Rattle.keep.specs.Arrays.{Right, cut, Holds}
+use Rattle.on_file.specs.Kept.{leaving}
+use Rattle.keep.specs.Kept.{Room, filed, unpoured}
 
 -- the number of the reader, as an answer
 by-read : (s : List ℕ) (m : Outcome Channel) → Outside m → refusal (numberOf m) 0 ≡ called s (λ _. 0) (λ _. s) m .answer
@@ -53,10 +53,10 @@ module _ (f : Channel → Called Channel) (fits : ℕ → Bool) (poured : List R
       let y = read-refused fits poured s (λ w. z (e ∙ w)) in
       rw (y .is) (ap (λ k. leaving (refusal k 0) s) (e ∙ sym (y .numbered)))
 
-  -- and those that it takes
-  pub taken-by : Opened fits poured s → filed (f (channelOf s)) ≡ onFile f s (readWith fits poured s)
+  -- and those that it takes, whose channel is held in arrays
+  pub taken-by : {r : Answer} {d : List ℕ} {a : Arrays} → Opened fits poured s → Holds (channelOf s) a → leaving r d ≡ filed (f (cut a)) → leaving r d ≡ onFile f s (readWith fits poured s)
   unfolding onFile filed
-  taken-by o = rw (o .is)
+  taken-by o w e = e ∙ ap (λ c. filed (f c)) (w .is) ∙ rw (o .is)
 
 -- what is asked of bytes that the reader takes
 module _ {fits : ℕ → Bool} {poured : List Row} {s : List ℕ} (o : Opened fits poured s) where

@@ -3,13 +3,11 @@ use Prim.Native.Nat.{ℕ}
 use native.Mathlib.Omega.{arith}
 use mathlib.Core.Bool.{false}
 use mathlib.Core.List.{List, []}
-use mathlib.Core.Path.{sym, ap, _∙_}
+use mathlib.Core.Path.{sym, _∙_}
 use lib.Seq.{length-take-le}
-use Rattle.rule.specs.Channel.{Channel}
 use Rattle.rule.specs.Calls.{filterCall}
 use Rattle.reader.specs.Reader.{fitsIn}
 use Rattle.reader.specs.Opened.{Opened, opened-of}
-use Rattle.on_file.specs.Kept.{filed}
 use Rattle.on_file.specs.Ways.{filter-file-is, refused-by, taken-by, right, room}
 use borrow.Author.Needs.{needs}
 use Rattle.on_file.proofs.filter.Statement.{statement}
@@ -86,7 +84,7 @@ same-length-2 : tie.Need-same-length-2
 same-length-2 c = search needs
 
 returns-2 : tie.Need-returns-2
-returns-2 c = let s = lent (c .before .before .before .before .before .before .before .before .before .before .before .before .before .before .before .before .before .before .before .before .before .before .before .before .before) in c .before .before .before .before .before .before .before .filter-rows .ensures ∙ ap (λ (x : Channel). filed (filterCall x)) (c .before .before .before .before .before .before .before .before .before .before .before .before .before .before .before .before .before .before .before .before .before .before .before .opened .ensures .is) ∙ taken-by filterCall _ [] s (taken (c .before .before .before .before .before .before .before .before .before .before .before .before .before .before .before .before .before .before .before .before .before .before .before .before .before)) ∙ filter-file-is s s
+returns-2 c = let s = lent (c .before .before .before .before .before .before .before .before .before .before .before .before .before .before .before .before .before .before .before .before .before .before .before .before .before) in taken-by filterCall _ [] s (taken (c .before .before .before .before .before .before .before .before .before .before .before .before .before .before .before .before .before .before .before .before .before .before .before .before .before)) (c .before .before .before .before .before .before .before .before .before .before .before .before .before .before .before .before .before .before .before .before .before .before .before .opened .ensures) (c .before .before .before .before .before .before .before .filter-rows .ensures) ∙ filter-file-is s s
 
 pub filter-spec : {M : Type 1} → statement M
 filter-spec =

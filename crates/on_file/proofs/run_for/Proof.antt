@@ -3,13 +3,11 @@ use Prim.Native.Nat.{ℕ}
 use native.Mathlib.Omega.{arith}
 use mathlib.Core.Bool.{false}
 use mathlib.Core.List.{List, []}
-use mathlib.Core.Path.{sym, ap, _∙_}
+use mathlib.Core.Path.{sym, _∙_}
 use lib.Seq.{length-take-le}
-use Rattle.rule.specs.Channel.{Channel}
 use Rattle.rule.specs.Calls.{runForCall}
 use Rattle.reader.specs.Reader.{fitsIn}
 use Rattle.reader.specs.Opened.{Opened, opened-of}
-use Rattle.on_file.specs.Kept.{filed}
 use Rattle.on_file.specs.Ways.{run-file-is, refused-by, taken-by, right, room}
 use borrow.Author.Needs.{needs}
 use Rattle.on_file.proofs.run_for.Statement.{statement}
@@ -86,7 +84,7 @@ same-length-2 : tie.Need-same-length-2
 same-length-2 c = search needs
 
 returns-2 : tie.Need-returns-2
-returns-2 c = let s = lent (c .before .before .before .before .before .before .before .before .before .before .before .before .before .before .before .before .before .before .before .before .before .before .before .before .before) in let most = c .before .before .before .before .before .before .before .before .before .before .before .before .before .before .before .before .before .before .before .before .before .before .before .before .before .before .before .before .before .args .most in c .before .before .before .before .before .before .before .run-rows .ensures ∙ ap (λ (x : Channel). filed (runForCall most x)) (c .before .before .before .before .before .before .before .before .before .before .before .before .before .before .before .before .before .before .before .before .before .before .before .opened .ensures .is) ∙ taken-by (runForCall most) _ [] s (taken (c .before .before .before .before .before .before .before .before .before .before .before .before .before .before .before .before .before .before .before .before .before .before .before .before .before)) ∙ run-file-is most s s
+returns-2 c = let s = lent (c .before .before .before .before .before .before .before .before .before .before .before .before .before .before .before .before .before .before .before .before .before .before .before .before .before) in let most = c .before .before .before .before .before .before .before .before .before .before .before .before .before .before .before .before .before .before .before .before .before .before .before .before .before .before .before .before .before .args .most in taken-by (runForCall most) _ [] s (taken (c .before .before .before .before .before .before .before .before .before .before .before .before .before .before .before .before .before .before .before .before .before .before .before .before .before)) (c .before .before .before .before .before .before .before .before .before .before .before .before .before .before .before .before .before .before .before .before .before .before .before .opened .ensures) (c .before .before .before .before .before .before .before .run-rows .ensures) ∙ run-file-is most s s
 
 pub run-for-spec : {M : Type 1} → statement M
 run-for-spec =

@@ -3,15 +3,14 @@ use Prim.Native.Nat.{ℕ}
 use native.Mathlib.Omega.{arith}
 use mathlib.Core.Bool.{true}
 use mathlib.Core.List.{List, [], _∷_}
-use mathlib.Core.Path.{_≡_, sym, ap, _∙_}
+use mathlib.Core.Path.{_≡_, sym, _∙_}
 use lib.Seq.{length-take-le}
-use Rattle.rule.specs.Channel.{Channel}
 use Rattle.rule.specs.Calls.{rowIn, stepCall}
 use Rattle.reader.specs.Reader.{fitsIn}
 use Rattle.reader.specs.Held.{poured-bytes}
 use Rattle.reader.specs.Opened.{Opened, opened-of}
-use Rattle.on_file.specs.Arrays.{poured-cut}
-use Rattle.on_file.specs.Kept.{filed}
+use Rattle.keep.specs.Arrays.{cut, poured-cut}
+use Rattle.keep.specs.Kept.{filed}
 use Rattle.on_file.specs.Ways.{step-file-is, refused-by, taken-by, right, room, poured-fits}
 use borrow.Author.Needs.{needs}
 use Rattle.on_file.proofs.step.Statement.{statement}
@@ -103,7 +102,7 @@ same-length-2 : tie.Need-same-length-2
 same-length-2 c = search needs
 
 returns-2 : tie.Need-returns-2
-returns-2 c = let k = c .before .before .before .before .before .before .before .before .before .before .before .before .before .before .before .before .before .before .before .before .before .before .before .before .before in let s = lent (k .before .before) in let p = given (k .before .before) in let held = k .opened .ensures .is in let row = poured-cut p (k .opened .result .n) (c .before .before .before .before .before .before .before .before .before .before .before .before .before .before .before .before .before .before .before .before .before .before .before .before .read-row4 .ensures) (long k) in c .before .before .before .before .before .before .before .step-rows .ensures ∙ (λ i. filed (stepCall (held i) (row i))) ∙ taken-by (λ x. stepCall x (rowIn p)) _ (rowIn p ∷ []) s (taken (k .before .before)) ∙ step-file-is s p
+returns-2 c = let k = c .before .before .before .before .before .before .before .before .before .before .before .before .before .before .before .before .before .before .before .before .before .before .before .before .before in let s = lent (k .before .before) in let p = given (k .before .before) in let row = poured-cut p (k .opened .result .n) (c .before .before .before .before .before .before .before .before .before .before .before .before .before .before .before .before .before .before .before .before .before .before .before .before .read-row4 .ensures) (long k) in taken-by (λ x. stepCall x (rowIn p)) _ (rowIn p ∷ []) s (taken (k .before .before)) (k .opened .ensures) (c .before .before .before .before .before .before .before .step-rows .ensures ∙ (λ i. filed (stepCall (cut (k .opened .result)) (row i)))) ∙ step-file-is s p
 
 pub step-spec : {M : Type 1} → statement M
 step-spec =

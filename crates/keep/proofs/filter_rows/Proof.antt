@@ -1,8 +1,8 @@
--- `on_file::filter_rows` meets its contract: what a filter pass leaves is written. Assumes nothing.
-use Rattle.on_file.specs.Kept.{filter-left, put-asks, put-leaves}
+-- `keep::filter_rows` meets its contract: what a filter pass leaves is written. Assumes nothing.
+use Rattle.keep.specs.Kept.{filter-left, put-asks, put-leaves}
 use borrow.Author.Needs.{needs}
-use Rattle.on_file.proofs.filter_rows.Statement.{statement}
-use Rattle.on_file.proofs.filter_rows.Tie as tie
+use Rattle.keep.proofs.filter_rows.Statement.{statement}
+use Rattle.keep.proofs.filter_rows.Tie as tie
 
 filter-requires : tie.Need-filter-requires
 filter-requires c κs = search needs

@@ -1,8 +1,8 @@
--- `on_file::step_rows` meets its contract: what a step leaves is written. Assumes nothing.
-use Rattle.on_file.specs.Kept.{step-left, put-asks, put-leaves}
+-- `keep::step_rows` meets its contract: what a step leaves is written. Assumes nothing.
+use Rattle.keep.specs.Kept.{step-left, put-asks, put-leaves}
 use borrow.Author.Needs.{needs}
-use Rattle.on_file.proofs.step_rows.Statement.{statement}
-use Rattle.on_file.proofs.step_rows.Tie as tie
+use Rattle.keep.proofs.step_rows.Statement.{statement}
+use Rattle.keep.proofs.step_rows.Tie as tie
 
 step-requires : tie.Need-step-requires
 step-requires c κs = search needs

@@ -14,7 +14,7 @@ use Rattle.rule.specs.Calls.{rowIn}
 use Rattle.little.specs.Entries.{levelPadded, length-rowAt, length-levels}
 use Rattle.reader.specs.Reader.{fitsIn}
 use Rattle.reader.specs.Held.{count-is, four-cut, arrays-are, poured-is}
-use Rattle.on_file.specs.declared.Arrays.{Arrays}
+use Rattle.keep.specs.declared.Arrays.{Arrays}
 
 -- a file of the length that its count of cells asks for
 pub record Right (s : List ℕ) : Type 0 where

@@ -1,8 +1,8 @@
--- `on_file::run_rows` meets its contract: what a run leaves is written. Assumes nothing.
-use Rattle.on_file.specs.Kept.{run-left, put-asks, put-leaves}
+-- `keep::run_rows` meets its contract: what a run leaves is written. Assumes nothing.
+use Rattle.keep.specs.Kept.{run-left, put-asks, put-leaves}
 use borrow.Author.Needs.{needs}
-use Rattle.on_file.proofs.run_rows.Statement.{statement}
-use Rattle.on_file.proofs.run_rows.Tie as tie
+use Rattle.keep.proofs.run_rows.Statement.{statement}
+use Rattle.keep.proofs.run_rows.Tie as tie
 
 run-for-requires : tie.Need-run-for-requires
 run-for-requires c κs = search needs

@@ -1,8 +1,8 @@
--- `on_file::opened` meets its contract: the rows that it reads stand at the start of their arrays. Assumes nothing.
-use Rattle.on_file.specs.Arrays.{holds-of}
+-- `keep::opened` meets its contract: the rows that it reads stand at the start of their arrays. Assumes nothing.
+use Rattle.keep.specs.Arrays.{holds-of}
 use borrow.Author.Needs.{needs}
-use Rattle.on_file.proofs.opened.Statement.{statement}
-use Rattle.on_file.proofs.opened.Tie as tie
+use Rattle.keep.proofs.opened.Statement.{statement}
+use Rattle.keep.proofs.opened.Tie as tie
 
 count-at-requires : tie.Need-count-at-requires
 count-at-requires c κs = search needs

@@ -1,0 +1,83 @@
+-- The channel file: the file of what a call on its channel leaves. Assumes nothing.
+use Prim.Native.Nat.{ℕ, zero, suc, _-_}
+use mathlib.Core.Path.{_≡_, refl, sym, ap, _∙_, subst}
+use mathlib.Core.Bool.{_&&_}
+use mathlib.Core.List.{List, [], _∷_}
+use lib.ListN.{length}
+use Rattle.rule.specs.declared.Answer.{Answer}
+use Rattle.rule.specs.Rows.{Row, map, all, same}
+use Rattle.rule.specs.Ranges.{cellsAllowed, mostPoured}
+use Rattle.rule.specs.Channel.{Channel, channel, rows, lengths}
+use Rattle.rule.specs.Refusals.{Outcome, refused, done, numberOf}
+use Rattle.rule.specs.Checks.{small, long, shaped, checked, wet}
+use Rattle.rule.specs.File.{fileOf, lengthOf}
+use Rattle.rule.specs.Step.{Stepped, step}
+use Rattle.rule.specs.Run.{runOn}
+use Rattle.rule.specs.Calls.{Called, stepCall, filterCall, runForCall}
+use Rattle.answers.specs.Stages.{leaves}
+use Rattle.checks.specs.Tests.{both, and-true}
+use Rattle.checks.specs.Numbers.{done-of}
+use Rattle.checks.specs.Order.{order-passed, order-rest}
+use Rattle.checks.specs.Facts.{valuesAllowed, levelsAllowed}
+use Rattle.checks.specs.Allowed.{countsPass, valuesPass, checked-is}
+use Rattle.water.specs.History.{pour, smooth, next, after}
+use Rattle.water.specs.Again.{step-passes, accepted-passes}
+use Rattle.run.specs.Runs.{nothing, fewerOf, ranOf, run-goes}
+use Rattle.writer.specs.Asked.{Writable, writable-of}
+use Rattle.writer.specs.Left.{leavesBytes}
+
+-- room for the file of a channel that passes the checks
+pub record Room (file : List ℕ) (c : Channel) : Type 0 where
+  pub sized : length file ≡ lengthOf (c .N)
+  pub passed : numberOf (checked c []) ≡ 0
+
+-- what is left, as a file
+unfoldable pub filed : Called Channel → Called (List ℕ)
+filed k = record { answer = k .answer; left = fileOf (k .left) }
+
+-- a channel that passes the checks with rows poured passes them with none
+pub unpoured : (c : Channel) (poured : List Row) → numberOf (checked c poured) ≡ 0 → numberOf (checked c []) ≡ 0
+unfolding shaped long all
+unpoured c poured z =
+    let m = wet (c .N) (c .X) (c .h) (c .e) in
+    let form = cellsAllowed (c .N) && same (map length (rows c)) (lengths (c .N)) in
+    let own = valuesAllowed (c .h) (c .e) (c .u) && levelsAllowed (c .v) (c .Q) (c .F) in
+    let p = order-passed (shaped c poured) (countsPass c) (valuesPass c poured) m (sym (ap numberOf (checked-is c poured)) ∙ z) in
+    ap numberOf (checked-is c [])
+    ∙ sym (order-rest (shaped c []) (countsPass c) (valuesPass c []) m (and-true form ∙ both form (long (c .N) poured) (p .0) .0) (p .1 .0) (and-true own ∙ both own (all (small mostPoured) poured) (p .1 .1 .0) .0))
+    ∙ p .1 .1 .1
+
+-- what a call leaves passes them too
+pub step-left : (c : Channel) (s : Row) → numberOf (checked c []) ≡ 0 → numberOf (checked (stepCall c s .left) []) ≡ 0
+unfolding after next
+step-left c s z = accepted-passes c (pour s ∷ []) z
+
+pub filter-left : (c : Channel) → numberOf (checked c []) ≡ 0 → numberOf (checked (filterCall c .left) []) ≡ 0
+unfolding after next
+filter-left c z = accepted-passes c (smooth ∷ []) z
+
+-- a step of a run, by its outcome
+by-step : (c : Channel) (left count : ℕ) (o : Outcome Stepped) → step c (nothing (c .N)) ≡ o → numberOf (checked c []) ≡ 0 → ((d : Channel) → numberOf (checked d []) ≡ 0 → numberOf (checked (runOn left (suc count) d .channel) []) ≡ 0) → numberOf (checked (runOn (suc left) count c .channel) []) ≡ 0
+unfolding runOn
+by-step c left count (refused why stage) p z next = rw (runOn, p) z
+by-step c left count (done t) p z next = rw (runOn, p) (next (t .channel) (step-passes c (nothing (c .N)) t p))
+
+steps-left : (left count : ℕ) (c : Channel) → numberOf (checked c []) ≡ 0 → numberOf (checked (runOn left count c .channel) []) ≡ 0
+unfolding runOn
+steps-left zero count c z = z
+steps-left (suc left) count c z = by-step c left count (step c (nothing (c .N))) refl z (steps-left left (suc count))
+
+pub run-left : (most : ℕ) (c : Channel) → numberOf (checked c []) ≡ 0 → numberOf (checked (runForCall most c .left) []) ≡ 0
+unfolding ranOf
+run-left most c z =
+    subst (λ (k : Called Channel). numberOf (checked (k .left) []) ≡ 0) (run-goes most c (done-of (checked c []) z)) (steps-left (fewerOf most (c .wanted - c .accepted)) 0 c z)
+
+-- so that it is written, and the file is that of what is left
+module _ {r : Answer} {k : Called Channel} {n X T accepted wanted : ℕ} {h e u v q f : Row} (p : leaves r (channel n X T accepted wanted h e u v q f) ≡ k) where
+  pub put-asks : numberOf (checked (k .left) []) ≡ 0 → Writable n h e u v q f
+  put-asks z =
+      writable-of (channel n X T accepted wanted h e u v q f) [] (ap (λ (x : Called Channel). numberOf (checked (x .left) [])) p ∙ z)
+
+  pub put-leaves : {d : List ℕ} → d ≡ fileOf (channel n X T accepted wanted h e u v q f) → leavesBytes r d ≡ filed k
+  unfolding filed
+  put-leaves w = ap (leavesBytes r) w ∙ ap filed p

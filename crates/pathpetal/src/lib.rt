@@ -1,0 +1,70 @@
+// What C calls: each call over the bytes of a channel file, with its answer packed into one number.
+ghost use mathlib.Core.Path.{_≡_};
+ghost use Rattle.rule.specs.Calls.{packed, checkFile, stepFile, filterFile, runForFile, makeFile};
+ghost use Rattle.pathpetal.specs.Small.{Small};
+
+// An answer in one number.
+fn pack(a: rule::Answer) -> u64
+    requires { ⌜ Small a ⌝ }
+    ensures { λ r. ⌜ r ≡ packed a ⌝ }
+{
+    a.count * 65536 + a.number * 256 + a.stage
+}
+
+// Makes the file of a channel with no step accepted.
+#[no_mangle]
+pub extern "C" fn pathpetal_make(
+    cells: u64,
+    width: u64,
+    time: u64,
+    wanted: u64,
+    depths: &[u8],
+    heights: &[u8],
+    velocities: &[u8],
+    file: &mut [u8],
+) -> u64
+    ensures { λ r. ⌜ (r ≡ packed (makeFile cells width time wanted (now (depths .entry)) (now (heights .entry)) (now (velocities .entry)) (now (file .entry)) .answer)) × (now (file .exit) ≡ makeFile cells width time wanted (now (depths .entry)) (now (heights .entry)) (now (velocities .entry)) (now (file .entry)) .left) ⌝ }
+{
+    pack(make_file::make(
+        cells,
+        width,
+        time,
+        wanted,
+        depths,
+        heights,
+        velocities,
+        file,
+    ))
+}
+
+// Whether bytes are a channel file.
+#[no_mangle]
+pub extern "C" fn pathpetal_check(file: &[u8]) -> u64
+    ensures { λ r. ⌜ r ≡ packed (checkFile (now (file .entry))) ⌝ }
+{
+    pack(on_file::check(file))
+}
+
+// One step, with a row poured.
+#[no_mangle]
+pub extern "C" fn pathpetal_step(file: &mut [u8], poured: &[u8]) -> u64
+    ensures { λ r. ⌜ (r ≡ packed (stepFile (now (file .entry)) (now (poured .entry)) .answer)) × (now (file .exit) ≡ stepFile (now (file .entry)) (now (poured .entry)) .left) ⌝ }
+{
+    pack(on_file::step(file, poured))
+}
+
+// One filter pass.
+#[no_mangle]
+pub extern "C" fn pathpetal_filter(file: &mut [u8]) -> u64
+    ensures { λ r. ⌜ (r ≡ packed (filterFile (now (file .entry)) .answer)) × (now (file .exit) ≡ filterFile (now (file .entry)) .left) ⌝ }
+{
+    pack(on_file::filter(file))
+}
+
+// Steps with nothing poured: at most `most`, until complete or refused.
+#[no_mangle]
+pub extern "C" fn pathpetal_run(file: &mut [u8], most: u64) -> u64
+    ensures { λ r. ⌜ (r ≡ packed (runForFile most (now (file .entry)) .answer)) × (now (file .exit) ≡ runForFile most (now (file .entry)) .left) ⌝ }
+{
+    pack(on_file::run_for(most, file))
+}

@@ -1,0 +1,130 @@
+#include "channel.h"
+
+#include <errno.h>
+#include <fcntl.h>
+#include <stdio.h>
+#include <string.h>
+#include <unistd.h>
+
+enum status channel_bytes(const char *path, struct channel *channel)
+{
+    int file = open(path, O_RDONLY | O_CLOEXEC);
+    channel->length = 0;
+    if (file < 0) {
+        say("%s: cannot be read: %s", path, strerror(errno));
+        return STATUS_REFUSED;
+    }
+    while (channel->length < sizeof channel->bytes) {
+        ssize_t got = read(file, channel->bytes + channel->length, sizeof channel->bytes - channel->length);
+        if (got < 0 && errno == EINTR)
+            continue;
+        if (got < 0) {
+            say("%s: cannot be read: %s", path, strerror(errno));
+            close(file);
+            return STATUS_REFUSED;
+        }
+        if (got == 0)
+            break;
+        channel->length += (size_t)got;
+    }
+    close(file);
+    return STATUS_DONE;
+}
+
+enum status channel_read(const char *path, struct channel *channel)
+{
+    unsigned number;
+    enum status status = channel_bytes(path, channel);
+    if (status != STATUS_DONE)
+        return status;
+    number = pathpetal_number(pathpetal_check(channel->bytes, channel->length));
+    if (number != PATHPETAL_DONE) {
+        say("%s: refused, number %u: %s", path, number, refusal_words(number));
+        say("to mend: take a fresh copy of the file, or make it again from its survey");
+        return STATUS_REFUSED;
+    }
+    return STATUS_DONE;
+}
+
+static const struct {
+    const char *words, *mend;
+} refusals[] = {
+    [PATHPETAL_SHAPE] = {"it has not 8 to 256 cells, or a row beside it has not one entry for each cell",
+                         "give a row for each of 8 to 256 cells"},
+    [PATHPETAL_COUNTS] = {"the cell width is not 10 to 5,000 mm, the time step not 1 to 100 ms, the steps wanted not 1 "
+                          "to 1,000,000, or more steps are accepted than wanted",
+                          "choose a width, a time step and a count of steps within these bounds"},
+    [PATHPETAL_VALUE] = {"a depth is not 1 to 20,000 mm, a height or velocity is beyond 20 m or 20 m/s, a poured "
+                         "amount is beyond 1 m, or another stored value is out of its range",
+                         "look for a number that was typed in the wrong unit"},
+    [PATHPETAL_DEPTH] = {"a cell has less than 1 mm of water: it fell dry, or nearly so",
+                         "make that cell deeper, or the waves lower"},
+    [PATHPETAL_DOMINANCE] = {"the bottom is too steep for cells this narrow", "take wider cells, or smooth the bottom"},
+    [PATHPETAL_PIVOT] = {"the velocities cannot be worked out", "keep the file and tell who looks after the program"},
+    [PATHPETAL_SPEED] = {"the water became faster than 20 m/s", "take lower velocities, lower waves or a shorter time "
+                                                                "step"},
+    [PATHPETAL_HEIGHT] = {"the water rose or fell by more than 20 m", "take a shorter time step, wider cells, a filter "
+                                                                      "pass more often, or pour less"},
+    [PATHPETAL_FLUX] = {"more water goes through a face than the file can hold",
+                        "take lower velocities, wider cells or a smoother bottom"},
+    [PATHPETAL_UNSETTLED] = {"ten corrections did not settle", "take a shorter time step, wider cells or a filter pass "
+                                                               "more often"},
+    [PATHPETAL_COMPLETE] = {"all wanted steps are already taken", "nothing is left to do"},
+    [PATHPETAL_LENGTH] = {"the file is cut short, too long, or no channel file", "take a fresh copy of the file"},
+    [PATHPETAL_EDITION] = {"it is not a channel file of edition 1", "name a file that pathpetal make has written"},
+    [PATHPETAL_OFFSETS] = {"the file's rows do not stand where they must", "take a fresh copy of the file"},
+    [PATHPETAL_BUFFER] = {"the room for the file has not its length", "tell who looks after the program"},
+};
+
+static bool has_words(unsigned number)
+{
+    return number < sizeof refusals / sizeof refusals[0] && refusals[number].words;
+}
+
+const char *refusal_words(unsigned number)
+{
+    return has_words(number) ? refusals[number].words : "this program has no words for that number";
+}
+
+const char *refusal_mend(unsigned number)
+{
+    return has_words(number) ? refusals[number].mend : "look the number up in the list that came with the library";
+}
+
+struct shown stage_words(unsigned stage)
+{
+    struct shown out;
+    if (stage == 0)
+        snprintf(out.text, sizeof out.text, "in its prediction or before it");
+    else
+        snprintf(out.text, sizeof out.text, "in its correction %u", stage);
+    return out;
+}
+
+struct standing standing(const uint8_t *file)
+{
+    struct standing out;
+    if (pathpetal_complete(file))
+        snprintf(out.text, sizeof out.text, "complete: all %s steps accepted", GROUPED(pathpetal_wanted(file)));
+    else
+        snprintf(out.text, sizeof out.text, "open: %s of %s steps accepted", GROUPED(pathpetal_accepted(file)),
+                 GROUPED(pathpetal_wanted(file)));
+    return out;
+}
+
+int64_t water_sum(const uint8_t *file)
+{
+    int64_t sum = 0;
+    for (size_t cell = 0; cell < pathpetal_cells(file); cell++)
+        sum += pathpetal_height_um(file, cell);
+    return sum;
+}
+
+void put_signed(uint8_t *at, int64_t number)
+{
+    uint32_t bits = (uint32_t)(uint64_t)number;
+    at[0] = (uint8_t)bits;
+    at[1] = (uint8_t)(bits >> 8);
+    at[2] = (uint8_t)(bits >> 16);
+    at[3] = (uint8_t)(bits >> 24);
+}

@@ -1,0 +1,26 @@
+/* staff.h: a staff record read back. */
+#ifndef STAFF_H
+#define STAFF_H
+
+#include "channel.h"
+
+struct staffs {
+    size_t count, rows;
+    uint32_t *cells;   /* of each staff, from 1 */
+    int64_t *times;    /* of each row, ms */
+    int64_t *heights;  /* um: of each row, of each staff */
+    uint32_t first;    /* the step of the first row */
+    uint32_t accepted; /* the count that the record has come to */
+    uint32_t wanted;   /* 0 where the record does not say it */
+    bool complete;     /* its last line says complete, and its rows go that far */
+};
+
+enum status staffs_read(const char *path, struct staffs *staffs);
+void staffs_free(struct staffs *staffs);
+
+int64_t staff_height(const struct staffs *staffs, size_t row, size_t staff);
+
+/* "complete: all 6,000 steps accepted", "open: ..." */
+struct standing staffs_standing(const struct staffs *staffs);
+
+#endif

@@ -1,0 +1,79 @@
+#include "text.h"
+
+#include <stdio.h>
+#include <stdlib.h>
+#include <string.h>
+
+static void reserve(struct text *text, size_t more)
+{
+    size_t need = text->length + more + 1;
+    if (need <= text->room)
+        return;
+    text->room = need > 2 * text->room ? need : 2 * text->room;
+    text->at = more_room(text->at, text->room, 1);
+}
+
+void text_add_list(struct text *text, const char *format, va_list arguments)
+{
+    va_list again;
+    int length;
+    va_copy(again, arguments);
+    length = vsnprintf(NULL, 0, format, again);
+    va_end(again);
+    if (length <= 0)
+        return;
+    reserve(text, (size_t)length);
+    vsnprintf(text->at + text->length, (size_t)length + 1, format, arguments);
+    text->length += (size_t)length;
+}
+
+void text_add(struct text *text, const char *format, ...)
+{
+    va_list arguments;
+    va_start(arguments, format);
+    text_add_list(text, format, arguments);
+    va_end(arguments);
+}
+
+void text_add_bytes(struct text *text, const char *bytes, size_t length)
+{
+    reserve(text, length);
+    memcpy(text->at + text->length, bytes, length);
+    text->length += length;
+    text->at[text->length] = '\0';
+}
+
+/* Bytes of the UTF-8 character at the start of a text, 0 if there is none. */
+static size_t character(const unsigned char *at)
+{
+    size_t more = at[0] < 0x80 ? 0 : at[0] >= 0xC2 && at[0] < 0xE0 ? 1 : at[0] >= 0xE0 && at[0] < 0xF0 ? 2
+                : at[0] >= 0xF0 && at[0] < 0xF5 ? 3 : 4;
+    if (more == 4)
+        return 0;
+    for (size_t k = 1; k <= more; k++)
+        if ((at[k] & 0xC0) != 0x80)
+            return 0;
+    if ((at[0] == 0xE0 && at[1] < 0xA0) || (at[0] == 0xED && at[1] >= 0xA0) || (at[0] == 0xF0 && at[1] < 0x90) ||
+        (at[0] == 0xF4 && at[1] >= 0x90) || (at[0] == 0xEF && at[1] == 0xBF && at[2] >= 0xBE))
+        return 0;
+    return more + 1;
+}
+
+void text_add_escaped(struct text *text, const char *from)
+{
+    while (*from) {
+        size_t bytes = character((const unsigned char *)from);
+        switch (*from) {
+        case '&': text_add(text, "&amp;"); break;
+        case '<': text_add(text, "&lt;"); break;
+        case '>': text_add(text, "&gt;"); break;
+        case '"': text_add(text, "&quot;"); break;
+        default:
+            if (bytes == 0 || (unsigned char)*from < 32 || *from == 127)
+                text_add(text, "?");
+            else
+                text_add(text, "%.*s", (int)bytes, from);
+        }
+        from += bytes == 0 ? 1 : bytes;
+    }
+}

@@ -1,0 +1,23 @@
+/* text.h: a text that grows, for what is written out in one piece. */
+#ifndef TEXT_H
+#define TEXT_H
+
+#include "say.h"
+
+#include <stdarg.h>
+
+struct text {
+    char *at;
+    size_t length, room;
+};
+
+void text_add(struct text *text, const char *format, ...) LIKE_PRINTF(2, 3);
+void text_add_list(struct text *text, const char *format, va_list arguments) LIKE_PRINTF(2, 0);
+
+/* Bytes as they are; a zero byte always follows what was added. */
+void text_add_bytes(struct text *text, const char *bytes, size_t length);
+
+/* Text from elsewhere, as it may stand in XML: marks escaped, what is no UTF-8 or no character of XML as '?'. */
+void text_add_escaped(struct text *text, const char *from);
+
+#endif

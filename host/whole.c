@@ -1,0 +1,291 @@
+#include "whole.h"
+
+#include <errno.h>
+#include <fcntl.h>
+#include <stdio.h>
+#include <stdlib.h>
+#include <string.h>
+#include <sys/stat.h>
+#include <unistd.h>
+
+enum status write_all(int to, const void *bytes, size_t length, const char *name)
+{
+    const char *at = bytes;
+    while (length > 0) {
+        ssize_t written = write(to, at, length);
+        if (written < 0 && errno == EINTR)
+            continue;
+        if (written <= 0) {
+            say("%s: cannot be written: %s", name, written < 0 ? strerror(errno) : "no bytes are taken");
+            return STATUS_UNWRITTEN;
+        }
+        at += written;
+        length -= (size_t)written;
+    }
+    return STATUS_DONE;
+}
+
+enum status flush_file(int file, const char *name)
+{
+    int failed;
+    do
+        failed = fsync(file);
+    while (failed && errno == EINTR);
+    if (failed) {
+        say("%s: cannot be flushed to disk: %s", name, strerror(errno));
+        return STATUS_UNWRITTEN;
+    }
+    return STATUS_DONE;
+}
+
+/* The folder of a path, as a text of its own. */
+static char *folder_of(const char *path)
+{
+    const char *slash = strrchr(path, '/');
+    char *folder = joined(slash ? path : ".", "");
+    if (slash)
+        folder[slash == path ? 1 : slash - path] = '\0';
+    return folder;
+}
+
+static const char *name_in_folder(const char *path)
+{
+    const char *slash = strrchr(path, '/');
+    return slash ? slash + 1 : path;
+}
+
+enum status flush_folder(const char *path)
+{
+    enum status status;
+    char *folder = folder_of(path);
+    int file = open(folder, O_RDONLY | O_DIRECTORY | O_CLOEXEC);
+    if (file < 0) {
+        say("%s: stands, but its folder cannot be opened to flush it to disk: %s", path, strerror(errno));
+        free(folder);
+        return STATUS_UNWRITTEN;
+    }
+    status = flush_file(file, folder);
+    if (close(file) != 0 && status == STATUS_DONE) {
+        say("%s: cannot be closed: %s", folder, strerror(errno));
+        status = STATUS_UNWRITTEN;
+    }
+    free(folder);
+    return status;
+}
+
+static enum status has_come(const char *path)
+{
+    say("%s: has come to be while this ran and is not written over; give --replace or another name", path);
+    return STATUS_UNWRITTEN;
+}
+
+enum status whole_name(const char *from, const char *path, bool replace)
+{
+    struct stat there;
+    if (!replace && lstat(path, &there) == 0)
+        return has_come(path);
+    if (rename(from, path) != 0) {
+        say("%s: cannot be given its name: %s", path, strerror(errno));
+        return STATUS_UNWRITTEN;
+    }
+    return flush_folder(path);
+}
+
+/* Gives a part its name. A link, unlike a rename, is never made where a file stands: so none that comes to be in the
+   last moment is lost. A process killed between leaves the part as a second name of the whole file. */
+static enum status name_part(const char *part, const char *path, bool replace)
+{
+    if (replace)
+        return whole_name(part, path, true);
+    if (link(part, path) != 0)
+        return errno == EEXIST ? has_come(path) : whole_name(part, path, false); /* where links cannot be made */
+    if (unlink(part) != 0) {
+        say("%s: stands, but %s cannot be removed: %s", path, part, strerror(errno));
+        return STATUS_UNWRITTEN;
+    }
+    return flush_folder(path);
+}
+
+/* A fresh file beside path; *name becomes its name. -1 and errno if there can be none. */
+static int open_part(const char *path, char **name)
+{
+    for (int try = 0; try < 1000; try++) {
+        char ending[64];
+        int file, why;
+        snprintf(ending, sizeof ending, ".part-%ld-%d", (long)getpid(), try);
+        *name = joined(path, ending);
+        file = open(*name, O_WRONLY | O_CREAT | O_EXCL | O_CLOEXEC, 0666);
+        if (file >= 0)
+            return file;
+        why = errno;
+        free(*name);
+        *name = NULL;
+        errno = why;
+        if (why != EEXIST)
+            break;
+    }
+    return -1;
+}
+
+enum status whole_write(const char *path, const void *bytes, size_t length, bool replace)
+{
+    char *part = NULL;
+    enum status status;
+    int file = open_part(path, &part);
+    if (file < 0) {
+        say("%s: cannot be written: %s", path, strerror(errno));
+        return STATUS_UNWRITTEN;
+    }
+    status = write_all(file, bytes, length, path);
+    if (status == STATUS_DONE)
+        status = flush_file(file, path);
+    if (close(file) != 0 && status == STATUS_DONE) {
+        say("%s: cannot be closed: %s", path, strerror(errno));
+        status = STATUS_UNWRITTEN;
+    }
+    if (status == STATUS_DONE)
+        status = name_part(part, path, replace);
+    if (status != STATUS_DONE)
+        unlink(part); /* gone already if it got its name */
+    free(part);
+    return status;
+}
+
+enum status read_all(const char *path, char **bytes, size_t *length)
+{
+    size_t room = 1 << 16;
+    int file = open(path, O_RDONLY | O_CLOEXEC);
+    if (file < 0) {
+        say("%s: cannot be read: %s", path, strerror(errno));
+        return STATUS_REFUSED;
+    }
+    *bytes = room_for(room, 1);
+    *length = 0;
+    for (;;) {
+        ssize_t got = read(file, *bytes + *length, room - *length - 1);
+        if (got < 0 && errno == EINTR)
+            continue;
+        if (got < 0) {
+            say("%s: cannot be read: %s", path, strerror(errno));
+            close(file);
+            free(*bytes);
+            *bytes = NULL;
+            return STATUS_REFUSED;
+        }
+        if (got == 0)
+            break;
+        *length += (size_t)got;
+        if (room - *length < 2) {
+            room *= 2;
+            *bytes = more_room(*bytes, room, 1);
+        }
+    }
+    (*bytes)[*length] = '\0';
+    close(file);
+    return STATUS_DONE;
+}
+
+static struct place place_of(const char *use, const char *path, bool input)
+{
+    struct place place = {.use = use, .path = path, .input = input};
+    struct stat found;
+    char *folder;
+    if (!path)
+        return place;
+    place.name = name_in_folder(path);
+    if (stat(path, &found) == 0) {
+        place.there = true;
+        place.device = found.st_dev;
+        place.file = found.st_ino;
+    }
+    folder = folder_of(path);
+    if (stat(folder, &found) == 0) {
+        place.folder_device = found.st_dev;
+        place.folder = found.st_ino;
+    }
+    free(folder);
+    return place;
+}
+
+struct place input_place(const char *use, const char *path)
+{
+    return place_of(use, path, true);
+}
+
+struct place output_place(const char *use, const char *path)
+{
+    return place_of(use, path, false);
+}
+
+struct place work_place(const char *use, const char *path)
+{
+    struct place place = place_of(use, path, false);
+    place.work = true;
+    return place;
+}
+
+static bool same_place(const struct place *a, const struct place *b)
+{
+    if (a->there && b->there && a->device == b->device && a->file == b->file)
+        return true;
+    return a->folder == b->folder && a->folder_device == b->folder_device && strcmp(a->name, b->name) == 0;
+}
+
+static enum status output_allowed(const struct place *place, bool replace)
+{
+    struct stat found;
+    char *part = NULL;
+    int file;
+    if (place->name[0] == '\0') {
+        say("%s: names a folder; %s must be a file", place->path, place->use);
+        return STATUS_REFUSED;
+    }
+    if (lstat(place->path, &found) == 0) {
+        if (S_ISLNK(found.st_mode)) {
+            say("%s: is a symbolic link; name the file itself for %s", place->path, place->use);
+            return STATUS_REFUSED;
+        }
+        if (!S_ISREG(found.st_mode)) {
+            say("%s: is a %s; %s must be a file", place->path, S_ISDIR(found.st_mode) ? "folder" : "device or pipe",
+                place->use);
+            return STATUS_REFUSED;
+        }
+        if (!replace && !place->work) {
+            say("%s: is there already and is not written over; give another name for %s, or --replace", place->path,
+                place->use);
+            return STATUS_REFUSED;
+        }
+    }
+    file = open_part(place->path, &part);
+    if (file < 0) {
+        say("%s: cannot be written: %s", place->path, strerror(errno));
+        return STATUS_UNWRITTEN;
+    }
+    close(file);
+    if (unlink(part) != 0) {
+        say("%s: cannot be removed: %s", part, strerror(errno));
+        free(part);
+        return STATUS_UNWRITTEN;
+    }
+    free(part);
+    return STATUS_DONE;
+}
+
+enum status outputs_allowed(struct place *places, size_t count, bool replace)
+{
+    for (size_t j = 0; j < count; j++)
+        for (size_t k = 0; k < j; k++)
+            if (places[j].path && places[k].path && !(places[j].input && places[k].input) &&
+                same_place(&places[j], &places[k])) {
+                say("%s and %s are the same file: %s; nothing is written", places[k].use, places[j].use,
+                    places[j].path);
+                return STATUS_REFUSED;
+            }
+    for (size_t j = 0; j < count; j++)
+        if (places[j].path && !places[j].input) {
+            enum status status = output_allowed(&places[j], replace);
+            if (status != STATUS_DONE)
+                return status;
+        }
+    return STATUS_DONE;
+}

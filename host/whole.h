@@ -1,0 +1,48 @@
+/* whole.h: files that appear only whole, and places in the file system that must not be the same.
+
+   A file is written beside its name (NAME.part-PROCESS-TRY), flushed to disk and only then given its name; then the
+   folder is flushed. A process that is killed can leave such a part beside; nothing ever reads one. */
+#ifndef WHOLE_H
+#define WHOLE_H
+
+#include "say.h"
+
+#include <sys/types.h>
+
+/* Writes a whole file. Without `replace`, a file that stands at path stays, and the writing fails. */
+enum status whole_write(const char *path, const void *bytes, size_t length, bool replace);
+
+/* Gives a file that is written and flushed its name, and flushes the folder. */
+enum status whole_name(const char *from, const char *path, bool replace);
+
+/* All bytes to an open file; the name is for the message. */
+enum status write_all(int to, const void *bytes, size_t length, const char *name);
+
+/* Flushes an open file to disk; flushes the folder that a file stands in. */
+enum status flush_file(int file, const char *name);
+enum status flush_folder(const char *path);
+
+/* A file's whole contents with a zero byte after them, or a message. */
+enum status read_all(const char *path, char **bytes, size_t *length);
+
+/* A place in the file system: a file that is there, and the name in its folder. */
+struct place {
+    const char *use;  /* what the command calls it: START, END */
+    const char *path; /* NULL for none */
+    bool input;
+    bool work; /* an output that may be there: a run goes on with it */
+    bool there;
+    dev_t device, folder_device;
+    ino_t file, folder;
+    const char *name;
+};
+
+struct place input_place(const char *use, const char *path);
+struct place output_place(const char *use, const char *path);
+struct place work_place(const char *use, const char *path);
+
+/* Whether these outputs can be written without touching an input, each other, or without `replace` any file that is
+   there already. Tries that each folder takes a file. */
+enum status outputs_allowed(struct place *places, size_t count, bool replace);
+
+#endif
