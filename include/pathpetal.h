@@ -20,7 +20,9 @@
    signed), flux in um2/s (3 levels of n - 1 faces) and acceleration in um/s2 (3 levels of n cells; 8 bytes each,
    signed). It is complete exactly when as many steps are accepted as are wanted: pathpetal_complete asks that.
 
-   C99 and C++. Link with libpathpetal.a. Calls may run at the same time on different bytes. */
+   C99 and C++. Link with libpathpetal.a. Calls may run at the same time on different bytes. The strings of one call
+   must not overlap, but rows that are only read may be the same one. A string of length 0 may be NULL. A call needs
+   up to 200 KiB of stack. */
 #ifndef PATHPETAL_H
 #define PATHPETAL_H
 
