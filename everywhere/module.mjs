@@ -1,0 +1,157 @@
+// node module.mjs WASM HEADER: the ES module's own promises, beyond the calls that answer.mjs makes. Its last line is
+// 'N passed, M failed'.
+import assert from 'node:assert/strict';
+import { readFileSync } from 'node:fs';
+import { createServer } from 'node:http';
+import { pathToFileURL } from 'node:url';
+import { fileLength, load, reasons, Refusal, row } from '../include/pathpetal.mjs';
+
+const [wasm, header] = process.argv.slice(2);
+const bytes = readFileSync(wasm);
+const pathpetal = await load(bytes);
+let passed = 0, failed = 0;
+
+async function test(what, body) {
+    try {
+        await body();
+        passed++;
+    } catch (error) {
+        failed++;
+        console.log(`${what}: ${error.stack}`);
+    }
+}
+
+const still = (cells, value) => row(Array(cells).fill(value));
+const start = (cells = 8) => ({
+    cells, widthMm: 500, stepMs: 20, wanted: 5,
+    depths: still(cells, 1000), heights: row(Array.from({ length: cells }, (_, j) => (j === 2 ? 9000 : 0))), velocities: still(cells, 0),
+});
+const refused = (number, stage) => (error) =>
+    error instanceof Refusal && error instanceof Error && error.name === 'Refusal' && error.number === number && error.stage === stage &&
+    error.count === 0 && error.words === reasons[number] && error.message.includes(error.words);
+
+await test('the file exports the five calls and its memory, and needs nothing', async () => {
+    const module = await WebAssembly.compile(bytes);
+    assert.deepEqual(WebAssembly.Module.exports(module).map((e) => e.name).sort(),
+        ['memory', ...['make', 'check', 'step', 'filter', 'run'].map((name) => `pathpetal_${name}`)].sort());
+    assert.deepEqual(WebAssembly.Module.imports(module), []);
+});
+
+await test('the words are those of pathpetal.h', () => {
+    const text = readFileSync(header, 'utf8');
+    const list = text.slice(text.indexOf('enum pathpetal_reason'), text.indexOf('};'));
+    const words = [''];
+    for (const [, number, comment] of list.matchAll(/= (\d+),?\s*\/\*(.*?)\*\//gs))
+        words[Number(number)] = comment.replace(/\s+/g, ' ').trim();
+    assert.deepEqual([...reasons], words);
+});
+
+await test('load takes bytes, a buffer, a URL, its text, a response and the promise of one', async () => {
+    const server = createServer((request, response) => {
+        response.statusCode = request.url === '/pathpetal.wasm' ? 200 : 404;
+        response.end(request.url === '/pathpetal.wasm' ? bytes : '');
+    });
+    await new Promise((done) => server.listen(0, '127.0.0.1', done));
+    const url = `http://127.0.0.1:${server.address().port}/pathpetal.wasm`;
+    const same = async (source) => assert.deepEqual((await load(source)).make(start()), pathpetal.make(start()));
+    try {
+        await same(new Uint8Array(bytes));
+        await same(new Uint8Array(bytes).buffer);
+        await same(pathToFileURL(wasm));
+        await same(String(pathToFileURL(wasm)));
+        await same(new URL(url));
+        await same(url);
+        await same(await fetch(url));
+        await same(fetch(url));
+        await same(new Response(new Uint8Array(bytes)));
+        await assert.rejects(load(`${url}.not`), /404/);
+        await assert.rejects(load(new Uint8Array([0, 97, 115, 109, 1, 0, 0, 0])), TypeError);
+    } finally {
+        server.close();
+        server.closeAllConnections();
+    }
+});
+
+await test('make, read, step, run and filter', () => {
+    const file = pathpetal.make(start());
+    assert.equal(file.length, fileLength(8));
+    assert.deepEqual({ ...pathpetal.read(file) }, {
+        cells: 8, widthMm: 500, stepMs: 20, accepted: 0, wanted: 5, complete: false,
+        depths: Int32Array.from(Array(8).fill(1000)), heights: Int32Array.of(0, 0, 9000, 0, 0, 0, 0, 0), velocities: new Int32Array(8),
+    });
+    assert.equal(pathpetal.step(file, still(8, 0)), 2);
+    assert.equal(pathpetal.read(file).accepted, 1);
+    assert.deepEqual(pathpetal.run(file, 3), { complete: false, number: 16, stage: 0, count: 3, words: reasons[16] });
+    assert.equal(pathpetal.filter(file), undefined);
+    assert.deepEqual(pathpetal.run(file), { complete: true, number: 0, stage: 0, count: 1, words: '' });
+    assert.equal(pathpetal.read(file).complete, true);
+    assert.throws(() => pathpetal.step(file, still(8, 0)), refused(11, 0));
+    assert.throws(() => pathpetal.filter(file), refused(11, 0));
+    assert.deepEqual(pathpetal.run(file), { complete: true, number: 0, stage: 0, count: 0, words: '' });
+});
+
+await test('bytes of a view into a larger buffer', () => {
+    const whole = new Uint8Array(3 + fileLength(9) + 5).fill(7), file = whole.subarray(3, 3 + fileLength(9));
+    assert.equal(pathpetal.make(start(9), file), file);
+    assert.equal(pathpetal.step(file, still(9, 0)), pathpetal.step(pathpetal.make(start(9)), still(9, 0)));
+    assert.deepEqual([...whole.subarray(0, 3), ...whole.subarray(3 + fileLength(9))], Array(8).fill(7));
+});
+
+await test('a refused call leaves every byte', () => {
+    const file = pathpetal.make(start());
+    file[16] = 200;
+    const before = file.slice();
+    for (const call of [() => pathpetal.check(file), () => pathpetal.read(file), () => pathpetal.step(file, still(8, 0)), () => pathpetal.filter(file)])
+        assert.throws(call, refused(2, 0));
+    assert.deepEqual(pathpetal.run(file), { complete: false, number: 2, stage: 0, count: 0, words: reasons[2] });
+    assert.throws(() => pathpetal.make({ ...start(), wanted: 0 }, file), refused(2, 0));
+    assert.throws(() => pathpetal.make(start(), file.subarray(1)), refused(15, 0));
+    assert.deepEqual(file, before);
+});
+
+await test('strings far longer than any that a call takes', () => {
+    const long = new Uint8Array(3_000_000);
+    long.set(pathpetal.make(start(256)));
+    assert.throws(() => pathpetal.check(long), refused(12, 0));
+    assert.throws(() => pathpetal.step(long, still(256, 0)), refused(12, 0));
+    assert.throws(() => pathpetal.step(long.slice(0, fileLength(256)), long), refused(1, 0));
+    assert.throws(() => pathpetal.make({ ...start(256), depths: long }), refused(1, 0));
+    assert.throws(() => pathpetal.make(start(256), long), refused(15, 0));
+    assert.throws(() => pathpetal.check(new Uint8Array(0)), refused(12, 0));
+});
+
+await test('counts of any size are refused by their number', () => {
+    for (const cells of [0, 7, 257, 2 ** 32 + 8, 2n ** 64n - 1n])
+        assert.throws(() => pathpetal.make({ ...start(), cells }), refused(1, 0));
+    for (const count of ['widthMm', 'stepMs', 'wanted'])
+        for (const value of [0, 2 ** 53 - 1, 2n ** 64n - 1n])
+            assert.throws(() => pathpetal.make({ ...start(), [count]: value }), refused(2, 0));
+});
+
+await test('what C could not be given is an error of the language', () => {
+    const file = pathpetal.make(start());
+    for (const cells of [-1, 8.5, NaN, Infinity, '8', undefined, -1n, 2n ** 64n])
+        assert.throws(() => pathpetal.make({ ...start(), cells }), RangeError);
+    for (const most of [-1, 0.5, NaN, 2n ** 64n])
+        assert.throws(() => pathpetal.run(file, most), RangeError);
+    for (const no of [null, undefined, [1, 2], new Int32Array(134), file.buffer, 'file'])
+        for (const call of [() => pathpetal.check(no), () => pathpetal.step(no, still(8, 0)), () => pathpetal.step(file, no), () => pathpetal.filter(no), () => pathpetal.run(no),
+            () => pathpetal.make({ ...start(), heights: no })])
+            assert.throws(call, TypeError);
+    for (const value of [0.5, NaN, 2 ** 31, -(2 ** 31) - 1, '1'])
+        assert.throws(() => row([0, value]), RangeError);
+    assert.deepEqual([...row([-(2 ** 31), 2 ** 31 - 1, -1])], [0, 0, 0, 128, 255, 255, 255, 127, 255, 255, 255, 255]);
+});
+
+await test('two loaded libraries and many calls keep nothing between them', async () => {
+    const other = await load(bytes), a = pathpetal.make(start(64)), b = other.make(start(64));
+    for (let i = 0; i < 5; i++) {
+        pathpetal.step(a, still(64, 10));
+        pathpetal.check(pathpetal.make(start(200)));
+        other.step(b, still(64, 10));
+    }
+    assert.deepEqual(a, b);
+});
+
+console.log(`${passed} passed, ${failed} failed`);
+process.exitCode = failed === 0 ? 0 : 1;
