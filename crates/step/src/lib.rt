@@ -43,6 +43,8 @@ fn advance(
     }
     let mut k = 1;
     while k <= 10 {
+        let before_e = old.e;
+        let before_u = old.u;
         let before_q = old.q;
         let before_f = old.f;
         let new = stage::stage(true, n, x, t, h, e, v, q, f, s, &before_q, &before_f);
@@ -55,7 +57,9 @@ fn advance(
                 trial: new,
             };
         }
-        if stage::settled(n, new, old) {
+        let new_e = new.e;
+        let new_u = new.u;
+        if stage::settled(n, &new_e, &new_u, &before_e, &before_u) {
             return Advanced {
                 number: 0,
                 stage: 0,
