@@ -43,11 +43,15 @@ fn advance(
     }
     let mut k = 1;
     while k <= 10 {
-        let before_e = old.e;
-        let before_u = old.u;
-        let before_q = old.q;
-        let before_f = old.f;
-        let new = stage::stage(true, n, x, t, h, e, v, q, f, s, &before_q, &before_f);
+        let heights = old.e;
+        let velocities = old.u;
+        let fluxes = old.q;
+        let accelerations = old.f;
+        let before_e: &[i64] = &heights;
+        let before_u: &[i64] = &velocities;
+        let before_q: &[i64] = &fluxes;
+        let before_f: &[i64] = &accelerations;
+        let new = stage::stage(true, n, x, t, h, e, v, q, f, s, before_q, before_f);
         let number = new.number;
         if number != 0 {
             return Advanced {
@@ -59,7 +63,7 @@ fn advance(
         }
         let new_e = new.e;
         let new_u = new.u;
-        if stage::settled(n, &new_e, &new_u, &before_e, &before_u) {
+        if stage::settled(n, &new_e, &new_u, before_e, before_u) {
             return Advanced {
                 number: 0,
                 stage: 0,
