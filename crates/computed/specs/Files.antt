@@ -406,6 +406,22 @@ file-over =
     (stepFile file-complete-after (replicate 32 0))
     (answers 11 0 0 file-complete-after) tt
 
+-- nor a filter pass
+pub file-filtered-no-more : filterFile file-complete-after ≡ answers 11 0 0 file-complete-after
+unfolding opened
+file-filtered-no-more =
+    alike (lists counts)
+    (filterFile file-complete-after)
+    (answers 11 0 0 file-complete-after) tt
+
+-- a run of it is complete at once, with no step accepted
+pub file-already-complete : runForFile 5 file-complete-after ≡ answers 0 0 0 file-complete-after
+unfolding opened
+file-already-complete =
+    alike (lists counts)
+    (runForFile 5 file-complete-after)
+    (answers 0 0 0 file-complete-after) tt
+
 -- a poured amount beyond 1,000,000 is told (3) before a dry cell of the file (4)
 abbrev dry-file : List ℕ
 dry-file = replaced 80 (0 ∷ 0 ∷ 236 ∷ 255 ∷ []) file-made-after
@@ -431,6 +447,11 @@ file-dry-poured =
 pub file-dry : stepFile dry-file file-dry-poured ≡ answers 4 0 0 dry-file
 unfolding opened
 file-dry = alike (lists counts) (stepFile dry-file file-dry-poured) (answers 4 0 0 dry-file) tt
+
+-- a run of that file is refused by the same number, and has accepted no step
+pub file-dry-run : runForFile 5 dry-file ≡ answers 4 0 0 dry-file
+unfolding opened
+file-dry-run = alike (lists counts) (runForFile 5 dry-file) (answers 4 0 0 dry-file) tt
 
 -- a poured row of too few entries (1) is told before rows that do not stand where they must (14)
 abbrev shifted-file : List ℕ
