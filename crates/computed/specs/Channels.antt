@@ -1,0 +1,382 @@
+-- Whole calls over rows, computed by the prover: each way a step or a run ends, and a step of 24 cells.
+-- The numbers are the second program's: compare/computed writes this file from compare/calls.txt, and asks again in the tests.
+-- A channel is its counts N, X, T, accepted, wanted and its rows h, e, u, V, Q, F; an answer is number, stage and count.
+use mathlib.Core.Path.{_≡_}
+use mathlib.Core.List.{[], _∷_}
+use lib.IntN.{pos}
+use lib.ListN.{replicate}
+use Rattle.rule.specs.Rows.{Row, minus}
+use Rattle.rule.specs.Channel.{Channel, channel}
+use Rattle.rule.specs.Calls.{makeCall, stepCall, filterCall, runCall, runForCall}
+use Rattle.rule.specs.Alike.{channels, alike}
+use Rattle.rule.specs.Opened.{opened}
+use Rattle.rule.specs.Computed.{answers, thrice}
+
+-- a channel of 9 cells over an uneven bottom
+abbrev make-uneven-before : Channel
+make-uneven-before =
+    channel 9 500 50 0 10
+    (pos 310 ∷ pos 352 ∷ pos 298 ∷ pos 405 ∷ pos 377 ∷ pos 331 ∷ pos 289 ∷ pos 344 ∷ pos 401 ∷ [])
+    (pos 12040 ∷ minus 8077 ∷ pos 3051 ∷ minus 15 ∷ pos 9904 ∷ minus 7003 ∷ pos 25001 ∷ minus 11986 ∷
+    pos 407 ∷ [])
+    (pos 1500 ∷ minus 22017 ∷ pos 9033 ∷ pos 40011 ∷ minus 3507 ∷ pos 12 ∷ minus 18049 ∷ pos 7001 ∷
+    pos 26003 ∷ [])
+    (replicate 9 (pos 0))
+    (replicate 24 (pos 0))
+    (replicate 27 (pos 0))
+
+abbrev make-uneven-after : Channel
+make-uneven-after =
+    channel 9 500 50 0 10
+    (make-uneven-before .h)
+    (make-uneven-before .e)
+    (make-uneven-before .u)
+    (pos 6084 ∷ minus 32153 ∷ pos 7086 ∷ pos 59821 ∷ minus 14833 ∷ pos 3281 ∷ minus 23903 ∷ pos 6309 ∷
+    pos 44156 ∷ [])
+    (thrice (minus 4492178354 ∷ minus 4503745099 ∷ pos 12335722716 ∷ pos 8708077714 ∷ minus 1878214755 ∷
+    minus 3419647930 ∷ minus 2930424365 ∷ pos 9319554084 ∷ []))
+    (thrice (pos 281362 ∷ pos 97935 ∷ minus 109698 ∷ minus 87065 ∷ pos 127120 ∷ minus 217041 ∷ pos 49729 ∷
+    pos 333363 ∷ minus 221382 ∷ []))
+
+pub make-uneven : makeCall make-uneven-before ≡ answers 0 0 0 make-uneven-after
+unfolding opened
+make-uneven = alike channels (makeCall make-uneven-before) (answers 0 0 0 make-uneven-after) tt
+
+-- a step that settles at its first correction
+abbrev step-settled-at-once-before : Channel
+step-settled-at-once-before =
+    channel 8 1000 20 0 10
+    (pos 313 ∷ pos 313 ∷ pos 296 ∷ pos 321 ∷ pos 287 ∷ pos 320 ∷ pos 325 ∷ pos 283 ∷ [])
+    (pos 7550 ∷ pos 8286 ∷ minus 1265 ∷ minus 8896 ∷ minus 8538 ∷ pos 3158 ∷ pos 5030 ∷ minus 6731 ∷ [])
+    (minus 604 ∷ pos 725 ∷ pos 638 ∷ minus 425 ∷ minus 424 ∷ pos 521 ∷ minus 814 ∷ minus 6 ∷ [])
+    (minus 701 ∷ pos 781 ∷ pos 671 ∷ minus 467 ∷ minus 455 ∷ pos 610 ∷ minus 902 ∷ pos 24 ∷ [])
+    (thrice (minus 9825487 ∷ pos 274718034 ∷ pos 22462801 ∷ minus 177580276 ∷ pos 64246671 ∷ minus 48498436 ∷
+    minus 173372184 ∷ []))
+    (thrice (minus 12621 ∷ pos 44205 ∷ pos 99219 ∷ pos 43373 ∷ minus 73687 ∷ minus 86965 ∷ pos 66151 ∷ pos 78447 ∷ []))
+
+abbrev step-settled-at-once-after : Channel
+step-settled-at-once-after =
+    channel 8 1000 20 1 10
+    (step-settled-at-once-before .h)
+    (pos 7550 ∷ pos 8277 ∷ minus 1260 ∷ minus 8888 ∷ minus 8539 ∷ pos 3157 ∷ pos 5027 ∷ minus 6730 ∷ [])
+    (minus 800 ∷ pos 1602 ∷ pos 2555 ∷ pos 398 ∷ minus 1837 ∷ minus 1090 ∷ pos 394 ∷ pos 1470 ∷ [])
+    (minus 953 ∷ pos 1665 ∷ pos 2655 ∷ pos 401 ∷ minus 1929 ∷ minus 1130 ∷ pos 421 ∷ pos 1593 ∷ [])
+    (pos 64365390 ∷ pos 754097899 ∷ pos 513795593 ∷ minus 261227784 ∷ minus 527808966 ∷ minus 121132827 ∷
+    pos 378997701 ∷
+    minus 9825487 ∷ pos 274718034 ∷ pos 22462801 ∷ minus 177580276 ∷ pos 64246671 ∷ minus 48498436 ∷
+    minus 173372184 ∷
+    minus 9825487 ∷ pos 274718034 ∷ pos 22462801 ∷ minus 177580276 ∷ pos 64246671 ∷ minus 48498436 ∷
+    minus 173372184 ∷ [])
+    (minus 12551 ∷ pos 44176 ∷ pos 99108 ∷ pos 43420 ∷ minus 73636 ∷ minus 86956 ∷ pos 66139 ∷ pos 78421 ∷
+    minus 12621 ∷ pos 44205 ∷ pos 99219 ∷ pos 43373 ∷ minus 73687 ∷ minus 86965 ∷ pos 66151 ∷ pos 78447 ∷
+    minus 12621 ∷ pos 44205 ∷ pos 99219 ∷ pos 43373 ∷ minus 73687 ∷ minus 86965 ∷ pos 66151 ∷ pos 78447 ∷ [])
+
+pub step-settled-at-once :
+    stepCall step-settled-at-once-before (replicate 8 (pos 0))
+    ≡ answers 0 0 1 step-settled-at-once-after
+unfolding opened
+step-settled-at-once =
+    alike channels
+    (stepCall step-settled-at-once-before (replicate 8 (pos 0)))
+    (answers 0 0 1 step-settled-at-once-after) tt
+
+-- a rough step that takes eight corrections
+abbrev step-eight-corrections-before : Channel
+step-eight-corrections-before =
+    channel 8 200 100 0 10
+    (pos 546 ∷ pos 511 ∷ pos 514 ∷ pos 540 ∷ pos 545 ∷ pos 482 ∷ pos 541 ∷ pos 461 ∷ [])
+    (minus 70908 ∷ minus 84446 ∷ pos 63512 ∷ pos 66844 ∷ minus 16642 ∷ minus 71498 ∷ minus 32739 ∷
+    pos 44699 ∷ [])
+    (minus 513007 ∷ minus 322067 ∷ minus 833816 ∷ pos 1850030 ∷ pos 1408986 ∷ pos 1534322 ∷ pos 240545 ∷
+    minus 934469 ∷ [])
+    (minus 4132124 ∷ pos 1605788 ∷ minus 9400597 ∷ pos 10528940 ∷ pos 534934 ∷ pos 4090216 ∷ pos 14860 ∷
+    minus 7359862 ∷ [])
+    (thrice (minus 275646668861 ∷ minus 678285451170 ∷ pos 356313479967 ∷ pos 1369439316733 ∷ pos 748482326378 ∷
+    pos 507865047973 ∷ minus 520643743132 ∷ []))
+    (thrice (minus 133452 ∷ minus 4356301 ∷ pos 643982 ∷ minus 9725886 ∷ pos 6243851 ∷ pos 4631604 ∷
+    minus 1616952 ∷ pos 478772 ∷ []))
+
+abbrev step-eight-corrections-after : Channel
+step-eight-corrections-after =
+    channel 8 200 100 1 10
+    (step-eight-corrections-before .h)
+    (pos 84377 ∷ pos 44746 ∷ minus 329024 ∷ minus 407997 ∷ pos 143537 ∷ pos 59179 ∷ pos 465203 ∷
+    minus 161199 ∷ [])
+    (minus 511272 ∷ minus 293237 ∷ minus 822975 ∷ pos 1566889 ∷ pos 1280789 ∷ pos 1521613 ∷ pos 320810 ∷
+    minus 777523 ∷ [])
+    (minus 4191749 ∷ pos 1748771 ∷ minus 8627962 ∷ pos 8976004 ∷ pos 504976 ∷ pos 4149883 ∷ pos 226407 ∷
+    minus 6432876 ∷ [])
+    (minus 368748532557 ∷ minus 386674176587 ∷ minus 17818537127 ∷ pos 826066927228 ∷ pos 1007558100807 ∷
+    pos 711641025435 ∷ minus 230406457169 ∷
+    minus 275646668861 ∷ minus 678285451170 ∷ pos 356313479967 ∷ pos 1369439316733 ∷ pos 748482326378 ∷
+    pos 507865047973 ∷ minus 520643743132 ∷
+    minus 275646668861 ∷ minus 678285451170 ∷ pos 356313479967 ∷ pos 1369439316733 ∷ pos 748482326378 ∷
+    pos 507865047973 ∷ minus 520643743132 ∷ [])
+    (minus 1365141 ∷ pos 11071980 ∷ pos 19534794 ∷ minus 25196770 ∷ minus 11226561 ∷ minus 6127006 ∷
+    pos 8352100 ∷ pos 23923537 ∷
+    minus 133452 ∷ minus 4356301 ∷ pos 643982 ∷ minus 9725886 ∷ pos 6243851 ∷ pos 4631604 ∷
+    minus 1616952 ∷ pos 478772 ∷
+    minus 133452 ∷ minus 4356301 ∷ pos 643982 ∷ minus 9725886 ∷ pos 6243851 ∷ pos 4631604 ∷
+    minus 1616952 ∷ pos 478772 ∷ [])
+
+pub step-eight-corrections :
+    stepCall step-eight-corrections-before (replicate 8 (pos 0))
+    ≡ answers 0 0 8 step-eight-corrections-after
+unfolding opened
+step-eight-corrections =
+    alike channels
+    (stepCall step-eight-corrections-before (replicate 8 (pos 0)))
+    (answers 0 0 8 step-eight-corrections-after) tt
+
+-- ten corrections that do not settle
+abbrev step-unsettled-before : Channel
+step-unsettled-before =
+    channel 8 200 100 0 10
+    (pos 316 ∷ pos 310 ∷ pos 293 ∷ pos 301 ∷ pos 285 ∷ pos 287 ∷ pos 289 ∷ pos 299 ∷ [])
+    (minus 1774 ∷ minus 18490 ∷ minus 48123 ∷ pos 7016 ∷ pos 7403 ∷ pos 35462 ∷ pos 34911 ∷ pos 13251 ∷ [])
+    (minus 1252541 ∷ pos 1305009 ∷ minus 1088149 ∷ minus 1966223 ∷ minus 1888512 ∷ minus 1298267 ∷
+    minus 1121346 ∷ minus 417766 ∷ [])
+    (minus 6148899 ∷ pos 5898732 ∷ minus 2381488 ∷ minus 2966088 ∷ minus 2165583 ∷ minus 972157 ∷
+    minus 1544176 ∷ minus 577298 ∷ [])
+    (thrice (minus 27063341065 ∷ pos 226622310016 ∷ minus 541458605425 ∷ minus 645482301060 ∷
+    minus 486051833660 ∷ minus 401277968492 ∷ minus 275798803352 ∷ []))
+    (thrice (pos 531372 ∷ minus 913784 ∷ minus 12373482 ∷ minus 4708053 ∷ pos 3640149 ∷ pos 1608299 ∷
+    pos 2963801 ∷ pos 2428145 ∷ []))
+
+pub step-unsettled : stepCall step-unsettled-before (replicate 8 (pos 0)) ≡ answers 10 10 0 step-unsettled-before
+unfolding opened
+step-unsettled =
+    alike channels
+    (stepCall step-unsettled-before (replicate 8 (pos 0)))
+    (answers 10 10 0 step-unsettled-before) tt
+
+-- a cell falls dry at the first correction
+abbrev step-dry-at-a-correction-before : Channel
+step-dry-at-a-correction-before =
+    channel 8 200 50 0 10
+    (pos 67 ∷ pos 62 ∷ pos 65 ∷ pos 64 ∷ pos 54 ∷ pos 58 ∷ pos 59 ∷ pos 56 ∷ [])
+    (pos 28292 ∷ minus 23243 ∷ pos 22688 ∷ pos 36499 ∷ minus 16663 ∷ pos 30489 ∷ minus 14696 ∷ minus 6571 ∷ [])
+    (minus 1840698 ∷ minus 82667 ∷ pos 265475 ∷ pos 242235 ∷ minus 1805431 ∷ pos 707703 ∷ pos 817150 ∷
+    pos 1089123 ∷ [])
+    (minus 2079149 ∷ minus 22904 ∷ pos 280769 ∷ pos 307522 ∷ minus 1938871 ∷ pos 780356 ∷ pos 814747 ∷
+    pos 1162222 ∷ [])
+    (thrice (minus 121654052846 ∷ pos 24621603783 ∷ pos 34083944935 ∷ minus 32447676772 ∷ minus 8030099796 ∷
+    pos 59083855816 ∷ pos 52072900967 ∷ []))
+    (thrice (minus 10068382 ∷ pos 852225 ∷ minus 2420927 ∷ pos 3258333 ∷ pos 2429950 ∷ minus 6177337 ∷
+    pos 458076 ∷ pos 5778191 ∷ []))
+
+abbrev step-dry-at-a-correction-poured : Row
+step-dry-at-a-correction-poured =
+    minus 258 ∷ pos 227 ∷ minus 242 ∷ minus 241 ∷ minus 174 ∷ pos 107 ∷ pos 70 ∷ minus 194 ∷ []
+
+pub step-dry-at-a-correction :
+    stepCall step-dry-at-a-correction-before step-dry-at-a-correction-poured
+    ≡ answers 4 1 0 step-dry-at-a-correction-before
+unfolding opened
+step-dry-at-a-correction =
+    alike channels
+    (stepCall step-dry-at-a-correction-before step-dry-at-a-correction-poured)
+    (answers 4 1 0 step-dry-at-a-correction-before) tt
+
+-- u leaves its range at a correction
+abbrev step-too-fast-before : Channel
+step-too-fast-before =
+    channel 8 2000 100 0 10
+    (pos 2034 ∷ pos 2011 ∷ pos 2027 ∷ pos 1982 ∷ pos 1955 ∷ pos 2021 ∷ pos 2042 ∷ pos 2027 ∷ [])
+    (minus 2322 ∷ pos 6471 ∷ pos 3799 ∷ pos 5969 ∷ pos 8656 ∷ pos 814 ∷ minus 6550 ∷ minus 8217 ∷ [])
+    (minus 8326527 ∷ pos 13865999 ∷ pos 17272962 ∷ pos 11381519 ∷ minus 17059923 ∷ pos 8328596 ∷
+    minus 7431885 ∷ minus 12949135 ∷ [])
+    (minus 23910445 ∷ pos 21250897 ∷ pos 21195614 ∷ pos 19693157 ∷ minus 37342934 ∷ pos 24456097 ∷
+    minus 11601741 ∷ minus 25504858 ∷ [])
+    (thrice (pos 887374870563 ∷ pos 37946289134366 ∷ pos 35906782938543 ∷ minus 12306908091995 ∷
+    minus 10815049437776 ∷ pos 7741729625876 ∷ minus 30125587851494 ∷ []))
+    (thrice (pos 4541701 ∷ minus 116572435 ∷ pos 8025421 ∷ pos 127609264 ∷ pos 212699 ∷ minus 35128762 ∷
+    minus 61981243 ∷ pos 88458452 ∷ []))
+
+pub step-too-fast : stepCall step-too-fast-before (replicate 8 (pos 0)) ≡ answers 7 1 0 step-too-fast-before
+unfolding opened
+step-too-fast =
+    alike channels
+    (stepCall step-too-fast-before (replicate 8 (pos 0)))
+    (answers 7 1 0 step-too-fast-before) tt
+
+-- a channel of 24 cells
+abbrev make-wide-before : Channel
+make-wide-before =
+    channel 24 500 50 0 10
+    (pos 319 ∷ pos 293 ∷ pos 297 ∷ pos 291 ∷ pos 294 ∷ pos 291 ∷ pos 281 ∷ pos 289 ∷ pos 306 ∷ pos 271 ∷
+    pos 326 ∷ pos 329 ∷ pos 284 ∷ pos 273 ∷ pos 336 ∷ pos 291 ∷ pos 332 ∷ pos 326 ∷ pos 308 ∷ pos 333 ∷
+    pos 280 ∷ pos 302 ∷ pos 290 ∷ pos 311 ∷ [])
+    (minus 4995 ∷ minus 12559 ∷ pos 2763 ∷ pos 6265 ∷ minus 2975 ∷ pos 6651 ∷ pos 14284 ∷ minus 13911 ∷
+    minus 7997 ∷ minus 4640 ∷ minus 3894 ∷ pos 14320 ∷ pos 9346 ∷ minus 12720 ∷ minus 4817 ∷
+    minus 11825 ∷ minus 6940 ∷ pos 6794 ∷ pos 4545 ∷ pos 11183 ∷ minus 9989 ∷ pos 11841 ∷ pos 12777 ∷
+    pos 1041 ∷ [])
+    (pos 105372 ∷ minus 45515 ∷ minus 50162 ∷ pos 27392 ∷ pos 74716 ∷ minus 48207 ∷ minus 68076 ∷
+    minus 95465 ∷ pos 31092 ∷ pos 9611 ∷ pos 85698 ∷ minus 79558 ∷ pos 51134 ∷ minus 82488 ∷
+    minus 34998 ∷ pos 5711 ∷ minus 68115 ∷ pos 55736 ∷ pos 38420 ∷ pos 85383 ∷ minus 85568 ∷ pos 4736 ∷
+    pos 12499 ∷ minus 52007 ∷ [])
+    (replicate 24 (pos 0))
+    (replicate 69 (pos 0))
+    (replicate 72 (pos 0))
+
+abbrev make-wide-after : Channel
+make-wide-after =
+    channel 24 500 50 0 10
+    (make-wide-before .h)
+    (make-wide-before .e)
+    (make-wide-before .u)
+    (pos 161981 ∷ minus 66681 ∷ minus 61485 ∷ pos 31433 ∷ pos 97634 ∷ minus 62381 ∷ minus 66406 ∷
+    minus 116183 ∷ pos 51881 ∷ minus 4907 ∷ pos 126244 ∷ minus 127745 ∷ pos 86005 ∷ minus 102594 ∷
+    minus 37329 ∷ pos 23542 ∷ minus 101706 ∷ pos 79903 ∷ pos 26854 ∷ pos 120553 ∷ minus 120275 ∷
+    pos 15369 ∷ pos 22619 ∷ minus 77262 ∷ [])
+    (thrice (pos 16758336179 ∷ minus 20327873146 ∷ minus 4929233004 ∷ pos 20457838384 ∷ pos 5508046914 ∷
+    minus 19987404916 ∷ minus 27023363467 ∷ minus 8405854475 ∷ pos 7013184493 ∷ pos 19806050852 ∷
+    minus 1518817118 ∷ minus 8172162931 ∷ minus 242542271 ∷ minus 21083879361 ∷ minus 1859433623 ∷
+    minus 13038949063 ∷ minus 3483857102 ∷ pos 17551206179 ∷ pos 25183248463 ∷ pos 2755596192 ∷
+    minus 15799535167 ∷ pos 6805506058 ∷ minus 9103066923 ∷ []))
+    (thrice (pos 113899 ∷ minus 93511 ∷ minus 237783 ∷ pos 101888 ∷ pos 21096 ∷ minus 266926 ∷ pos 256945 ∷
+    pos 284678 ∷ minus 154545 ∷ minus 8184 ∷ minus 209166 ∷ minus 188835 ∷ pos 351345 ∷ pos 131860 ∷
+    minus 33523 ∷ pos 60058 ∷ minus 224520 ∷ minus 119783 ∷ minus 64024 ∷ pos 211746 ∷ minus 3979 ∷
+    minus 315089 ∷ pos 160530 ∷ pos 157926 ∷ []))
+
+pub make-wide : makeCall make-wide-before ≡ answers 0 0 0 make-wide-after
+unfolding opened
+make-wide = alike channels (makeCall make-wide-before) (answers 0 0 0 make-wide-after) tt
+
+-- a step of 24 cells with a poured row
+abbrev step-wide-after : Channel
+step-wide-after =
+    channel 24 500 50 1 10
+    (make-wide-after .h)
+    (minus 6521 ∷ minus 8105 ∷ pos 732 ∷ pos 3851 ∷ minus 643 ∷ pos 8720 ∷ pos 14095 ∷ minus 15249 ∷
+    minus 10074 ∷ minus 6270 ∷ minus 1963 ∷ pos 15237 ∷ pos 8673 ∷ minus 10098 ∷ minus 7157 ∷
+    minus 10750 ∷ minus 8315 ∷ pos 5381 ∷ pos 3395 ∷ pos 13322 ∷ minus 8725 ∷ pos 9596 ∷ pos 14058 ∷
+    pos 1033 ∷ [])
+    (pos 107689 ∷ minus 49750 ∷ minus 58265 ∷ pos 29560 ∷ pos 74022 ∷ minus 57213 ∷ minus 56862 ∷
+    minus 83373 ∷ pos 26236 ∷ pos 6891 ∷ pos 76353 ∷ minus 85786 ∷ pos 64615 ∷ minus 75494 ∷
+    minus 35188 ∷ pos 6718 ∷ minus 76621 ∷ pos 49807 ∷ pos 35500 ∷ pos 92495 ∷ minus 85227 ∷
+    minus 6965 ∷ pos 17816 ∷ minus 45791 ∷ [])
+    (pos 165999 ∷ minus 71293 ∷ minus 71536 ∷ pos 35367 ∷ pos 97663 ∷ minus 75086 ∷ minus 52813 ∷
+    minus 101662 ∷ pos 44309 ∷ minus 6230 ∷ pos 115193 ∷ minus 136371 ∷ pos 102998 ∷ minus 95598 ∷
+    minus 38649 ∷ pos 26185 ∷ minus 112287 ∷ pos 73901 ∷ pos 22849 ∷ pos 130533 ∷ minus 119361 ∷
+    minus 421 ∷ pos 30057 ∷ minus 68961 ∷ [])
+    (pos 16536972874 ∷ minus 22642325895 ∷ minus 5827968614 ∷ pos 21253385356 ∷ pos 3470046586 ∷
+    minus 19996833548 ∷ minus 22623355189 ∷ minus 7503532075 ∷ pos 5621667412 ∷ pos 18000624825 ∷
+    minus 4848709698 ∷ minus 7073790733 ∷ pos 3239284587 ∷ minus 20507741899 ∷ minus 1594318673 ∷
+    minus 14271829545 ∷ minus 6223744684 ∷ pos 15778746116 ∷ pos 26388258294 ∷ pos 4756452704 ∷
+    minus 18376027859 ∷ pos 5418796356 ∷ minus 6461852634 ∷
+    pos 16758336179 ∷ minus 20327873146 ∷ minus 4929233004 ∷ pos 20457838384 ∷ pos 5508046914 ∷
+    minus 19987404916 ∷ minus 27023363467 ∷ minus 8405854475 ∷ pos 7013184493 ∷ pos 19806050852 ∷
+    minus 1518817118 ∷ minus 8172162931 ∷ minus 242542271 ∷ minus 21083879361 ∷ minus 1859433623 ∷
+    minus 13038949063 ∷ minus 3483857102 ∷ pos 17551206179 ∷ pos 25183248463 ∷ pos 2755596192 ∷
+    minus 15799535167 ∷ pos 6805506058 ∷ minus 9103066923 ∷
+    pos 16758336179 ∷ minus 20327873146 ∷ minus 4929233004 ∷ pos 20457838384 ∷ pos 5508046914 ∷
+    minus 19987404916 ∷ minus 27023363467 ∷ minus 8405854475 ∷ pos 7013184493 ∷ pos 19806050852 ∷
+    minus 1518817118 ∷ minus 8172162931 ∷ minus 242542271 ∷ minus 21083879361 ∷ minus 1859433623 ∷
+    minus 13038949063 ∷ minus 3483857102 ∷ pos 17551206179 ∷ pos 25183248463 ∷ pos 2755596192 ∷
+    minus 15799535167 ∷ pos 6805506058 ∷ minus 9103066923 ∷ [])
+    (pos 24909 ∷ minus 90057 ∷ minus 140286 ∷ pos 40243 ∷ minus 33257 ∷ minus 232909 ∷ pos 296564 ∷
+    pos 299969 ∷ minus 146275 ∷ minus 56711 ∷ minus 240737 ∷ minus 145542 ∷ pos 320802 ∷ pos 153358 ∷
+    minus 14562 ∷ pos 40966 ∷ minus 190242 ∷ minus 120543 ∷ minus 106610 ∷ pos 179435 ∷ pos 55119 ∷
+    minus 316977 ∷ pos 129270 ∷ pos 179453 ∷
+    pos 113899 ∷ minus 93511 ∷ minus 237783 ∷ pos 101888 ∷ pos 21096 ∷ minus 266926 ∷ pos 256945 ∷
+    pos 284678 ∷ minus 154545 ∷ minus 8184 ∷ minus 209166 ∷ minus 188835 ∷ pos 351345 ∷ pos 131860 ∷
+    minus 33523 ∷ pos 60058 ∷ minus 224520 ∷ minus 119783 ∷ minus 64024 ∷ pos 211746 ∷ minus 3979 ∷
+    minus 315089 ∷ pos 160530 ∷ pos 157926 ∷
+    pos 113899 ∷ minus 93511 ∷ minus 237783 ∷ pos 101888 ∷ pos 21096 ∷ minus 266926 ∷ pos 256945 ∷
+    pos 284678 ∷ minus 154545 ∷ minus 8184 ∷ minus 209166 ∷ minus 188835 ∷ pos 351345 ∷ pos 131860 ∷
+    minus 33523 ∷ pos 60058 ∷ minus 224520 ∷ minus 119783 ∷ minus 64024 ∷ pos 211746 ∷ minus 3979 ∷
+    minus 315089 ∷ pos 160530 ∷ pos 157926 ∷ [])
+
+abbrev step-wide-poured : Row
+step-wide-poured =
+    pos 142 ∷ pos 666 ∷ minus 438 ∷ pos 189 ∷ pos 730 ∷ minus 404 ∷ minus 727 ∷ pos 392 ∷ minus 621 ∷
+    minus 366 ∷ minus 259 ∷ pos 418 ∷ pos 210 ∷ pos 428 ∷ minus 429 ∷ minus 99 ∷ minus 477 ∷ pos 727 ∷
+    minus 274 ∷ minus 74 ∷ minus 764 ∷ pos 60 ∷ minus 158 ∷ pos 803 ∷ []
+
+pub step-wide : stepCall make-wide-after step-wide-poured ≡ answers 0 0 2 step-wide-after
+unfolding opened
+step-wide = alike channels (stepCall make-wide-after step-wide-poured) (answers 0 0 2 step-wide-after) tt
+
+-- an early cell falls dry and a later one is too high: the check of heights goes over all cells first
+abbrev filter-too-high-before : Channel
+filter-too-high-before =
+    channel 8 5000 20 0 6
+    (pos 300 ∷ pos 20000 ∷ pos 300 ∷ pos 20000 ∷ pos 20000 ∷ pos 20000 ∷ pos 20000 ∷ pos 20000 ∷ [])
+    (pos 0 ∷ minus 298500 ∷ pos 19999999 ∷ pos 20000000 ∷ pos 19999999 ∷ pos 20000000 ∷ minus 9000000 ∷
+    minus 19999000 ∷ [])
+    (replicate 8 (pos 0))
+    (replicate 8 (pos 0))
+    (replicate 21 (pos 0))
+    (replicate 24 (pos 0))
+
+pub filter-too-high : filterCall filter-too-high-before ≡ answers 8 0 0 filter-too-high-before
+unfolding opened
+filter-too-high = alike channels (filterCall filter-too-high-before) (answers 8 0 0 filter-too-high-before) tt
+
+-- a run of three steps to the end
+abbrev pub run-complete-before : Channel
+run-complete-before =
+    channel 8 1000 20 0 3
+    (pos 323 ∷ pos 299 ∷ pos 319 ∷ pos 330 ∷ pos 285 ∷ pos 311 ∷ pos 273 ∷ pos 327 ∷ [])
+    (minus 6291 ∷ pos 2182 ∷ pos 5370 ∷ minus 1921 ∷ pos 2476 ∷ pos 7817 ∷ minus 6659 ∷ pos 8806 ∷ [])
+    (minus 974 ∷ pos 497 ∷ minus 557 ∷ minus 165 ∷ minus 428 ∷ minus 628 ∷ pos 876 ∷ pos 776 ∷ [])
+    (minus 1111 ∷ pos 591 ∷ minus 612 ∷ minus 142 ∷ minus 426 ∷ minus 689 ∷ pos 920 ∷ pos 845 ∷ [])
+    (thrice (minus 104561236 ∷ pos 12790748 ∷ minus 139879033 ∷ minus 70996970 ∷ minus 204929258 ∷ pos 7329417 ∷
+    pos 328930189 ∷ []))
+    (thrice (minus 52808 ∷ minus 72691 ∷ pos 34000 ∷ pos 23533 ∷ minus 73520 ∷ pos 68513 ∷ minus 1294 ∷
+    minus 112974 ∷ []))
+
+abbrev run-complete-after : Channel
+run-complete-after =
+    channel 8 1000 20 3 3
+    (run-complete-before .h)
+    (minus 6243 ∷ pos 2143 ∷ pos 5347 ∷ minus 1886 ∷ pos 2467 ∷ pos 7777 ∷ minus 6607 ∷ pos 8782 ∷ [])
+    (minus 3921 ∷ minus 3614 ∷ pos 1233 ∷ pos 1075 ∷ minus 4397 ∷ pos 3060 ∷ pos 710 ∷ minus 5246 ∷ [])
+    (minus 4268 ∷ minus 3761 ∷ pos 1417 ∷ pos 1268 ∷ minus 4826 ∷ pos 3415 ∷ pos 839 ∷ minus 5925 ∷ [])
+    (minus 1507456000 ∷ minus 326337416 ∷ pos 644642171 ∷ minus 649731317 ∷ minus 213880920 ∷
+    pos 941976053 ∷ minus 1159263234 ∷
+    minus 1041430494 ∷ minus 213101751 ∷ pos 384062229 ∷ minus 457479379 ∷ minus 210786357 ∷
+    pos 631379817 ∷ minus 664218907 ∷
+    minus 573529086 ∷ minus 100029675 ∷ pos 122537154 ∷ minus 264469892 ∷ minus 207953367 ∷
+    pos 319754473 ∷ minus 167643714 ∷ [])
+    (minus 52244 ∷ minus 72223 ∷ pos 33466 ∷ pos 23446 ∷ minus 72962 ∷ pos 68053 ∷ minus 1406 ∷
+    minus 112385 ∷
+    minus 52533 ∷ minus 72489 ∷ pos 33763 ∷ pos 23495 ∷ minus 73274 ∷ pos 68360 ∷ minus 1385 ∷
+    minus 112781 ∷
+    minus 52735 ∷ minus 72653 ∷ pos 33951 ∷ pos 23526 ∷ minus 73468 ∷ pos 68525 ∷ minus 1349 ∷
+    minus 112997 ∷ [])
+
+pub run-complete : runCall run-complete-before ≡ answers 0 0 3 run-complete-after
+unfolding opened
+run-complete = alike channels (runCall run-complete-before) (answers 0 0 3 run-complete-after) tt
+
+-- a run of at most two steps pauses with 16, for the channel is not complete
+abbrev run-paused-after : Channel
+run-paused-after =
+    channel 8 1000 20 2 3
+    (run-complete-before .h)
+    (minus 6268 ∷ pos 2163 ∷ pos 5362 ∷ minus 1907 ∷ pos 2474 ∷ pos 7797 ∷ minus 6641 ∷ pos 8800 ∷ [])
+    (minus 2943 ∷ minus 2247 ∷ pos 640 ∷ pos 662 ∷ minus 3077 ∷ pos 1834 ∷ pos 766 ∷ minus 3243 ∷ [])
+    (minus 3220 ∷ minus 2314 ∷ pos 745 ∷ pos 799 ∷ minus 3363 ∷ pos 2051 ∷ pos 867 ∷ minus 3673 ∷ [])
+    (minus 1041430494 ∷ minus 213101751 ∷ pos 384062229 ∷ minus 457479379 ∷ minus 210786357 ∷
+    pos 631379817 ∷ minus 664218907 ∷
+    minus 573529086 ∷ minus 100029675 ∷ pos 122537154 ∷ minus 264469892 ∷ minus 207953367 ∷
+    pos 319754473 ∷ minus 167643714 ∷
+    minus 104561236 ∷ pos 12790748 ∷ minus 139879033 ∷ minus 70996970 ∷ minus 204929258 ∷ pos 7329417 ∷
+    pos 328930189 ∷ [])
+    (minus 52533 ∷ minus 72489 ∷ pos 33763 ∷ pos 23495 ∷ minus 73274 ∷ pos 68360 ∷ minus 1385 ∷
+    minus 112781 ∷
+    minus 52735 ∷ minus 72653 ∷ pos 33951 ∷ pos 23526 ∷ minus 73468 ∷ pos 68525 ∷ minus 1349 ∷
+    minus 112997 ∷
+    minus 52808 ∷ minus 72691 ∷ pos 34000 ∷ pos 23533 ∷ minus 73520 ∷ pos 68513 ∷ minus 1294 ∷
+    minus 112974 ∷ [])
+
+pub run-paused : runForCall 2 run-complete-before ≡ answers 16 0 2 run-paused-after
+unfolding opened
+run-paused = alike channels (runForCall 2 run-complete-before) (answers 16 0 2 run-paused-after) tt
+
+-- taken up again and allowed more steps than are left, it completes, and leaves what the run of three steps left
+pub run-resumed : runForCall 9 run-paused-after ≡ answers 0 0 1 run-complete-after
+unfolding opened
+run-resumed = alike channels (runForCall 9 run-paused-after) (answers 0 0 1 run-complete-after) tt

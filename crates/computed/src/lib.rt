@@ -1,0 +1,1 @@
+// Whole calls that the prover computes stand in specs/.
