@@ -1,15 +1,41 @@
-// The printing program: reads a channel file from standard input and writes its line to standard output.
+// The printing program: reads a channel file from standard input and writes its line to standard output. A program has no exit
+// status here, so what else there is to tell it says on standard error.
+ghost use mathlib.Core.Path.{_≡_};
+ghost use lib.ListN.{take};
+ghost use Rattle.rule.specs.Calls.{printFile};
 
-// The line of the bytes that were read.
-fn print(file: &[u8]) {
+// A line, and where it ends.
+struct Line {
+    text: [u8; 64],
+    end: usize,
+}
+
+// Writes the line of the bytes that were read, and answers what it handed to standard output.
+fn print(file: &[u8]) -> Line
+    ensures { λ r. ⌜ take (r .end) (r .text) ≡ printFile (now (file .entry)) ⌝ }
+{
     let mut text = [0u8; 64];
     let end = line::line(file, &mut text);
-    io::write_all(1, &text[..end]);
+    if !io::write_all(1, &text[..end]) {
+        io::write_all(
+            2,
+            b"print_file: standard output failed: the line is not written, or not all of it. Clear nothing away.\n",
+        );
+    }
+    Line { text, end }
 }
 
 // The longest right file has 16,408 bytes. With one more a longer input is refused by its length, and not cut.
 fn main() {
     let mut bytes = [0u8; 16409];
-    let end = io::read_full(0, &mut bytes);
+    let got = input::read(&mut bytes);
+    let end = got.end;
+    if got.failed {
+        io::write_all(
+            2,
+            b"print_file: standard input failed: nothing is printed.\n",
+        );
+        return;
+    }
     print(&bytes[..end]);
 }

@@ -1,4 +1,4 @@
--- `run_file::run` meets its contract: what is written stands in the buffer. Assumes nothing.
+-- `run_file::run` meets its contract: what is written stands in the buffer, and is the rule's. Assumes nothing.
 use mathlib.Core.Path.{sym}
 use lib.Seq.{length-take-le}
 use Rattle.on_file.specs.Ran.{wrote-fits}
@@ -18,11 +18,23 @@ slice-aggregate-write-all c = sym (length-take-le _ _ (wrote-fits _ _ _ (c .befo
 write-all-requires : tie.Need-write-all-requires
 write-all-requires c κs = search needs
 
+slice-aggregate-write-all-2 : tie.Need-slice-aggregate-write-all-2
+slice-aggregate-write-all-2 c = search needs
+
+write-all-requires-2 : tie.Need-write-all-requires-2
+write-all-requires-2 c κs = search needs
+
 same-length : tie.Need-same-length
 same-length c = search needs
 
 returns : tie.Need-returns
 returns c = search needs
+
+same-length-2 : tie.Need-same-length-2
+same-length-2 c = search needs
+
+returns-2 : tie.Need-returns-2
+returns-2 c = search needs
 
 pub run-spec : {M : Type 1} → statement M
 run-spec =
@@ -32,5 +44,9 @@ run-spec =
     slice-reshare-prefix-write-all
     slice-aggregate-write-all
     write-all-requires
+    slice-aggregate-write-all-2
+    write-all-requires-2
     same-length
-    returns)
+    returns
+    same-length-2
+    returns-2)
