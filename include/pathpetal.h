@@ -9,8 +9,8 @@
 
    THE ANSWER is one 64-bit number: count * 65536 + number * 256 + stage.
      number  0 when the call did what was asked, else why it did not: see the list below
-     stage   where in a step it was refused: 0 for the prediction and for everything before it, 1 to 10 for that
-             correction; 0 in all other calls
+     stage   of a step, and of the step that ended a run: where it was refused, 0 for the prediction and for
+             everything before it, 1 to 10 for that correction; 0 in all other calls
      count   of a step: how many corrections it took, 1 to 10; of a run: how many steps it accepted, also when it
              then met a refusal; else 0
 
