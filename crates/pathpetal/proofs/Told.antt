@@ -24,14 +24,14 @@ module _ (κs : Lfts 4) where
 
 module _ (κs : Lfts 2) where
   pub step-told : (a : Dens κs step-kinds.ps) (r : resT step-kinds.r κs .Denot) (x : AtExit (endedOf 2 step-kinds.ps step-kinds.r) κs) → step-reads.Post κs a r x → unpacked r ≡ stepFile (now (a .0)) (now (a .1 .0)) .answer
-  step-told a r x p = step-unpacked _ _ (p .0)
+  step-told a r x p = step-unpacked _ _ (p .0 .0)
 
 module _ (κs : Lfts 1) where
   pub check-told : (a : Dens κs check-kinds.ps) (r : resT check-kinds.r κs .Denot) (x : AtExit (endedOf 1 check-kinds.ps check-kinds.r) κs) → check-reads.Post κs a r x → unpacked r ≡ checkFile (now (a .0))
-  check-told a r x p = check-unpacked _ p
+  check-told a r x p = check-unpacked _ (p .0)
 
   pub filter-told : (a : Dens κs filter-kinds.ps) (r : resT filter-kinds.r κs .Denot) (x : AtExit (endedOf 1 filter-kinds.ps filter-kinds.r) κs) → filter-reads.Post κs a r x → unpacked r ≡ filterFile (now (a .0)) .answer
-  filter-told a r x p = filter-unpacked _ (p .0)
+  filter-told a r x p = filter-unpacked _ (p .0 .0)
 
   pub run-told : (a : Dens κs run-kinds.ps) (r : resT run-kinds.r κs .Denot) (x : AtExit (endedOf 1 run-kinds.ps run-kinds.r) κs) → run-reads.Post κs a r x → unpacked r ≡ runForFile (a .1 .0) (now (a .0)) .answer
-  run-told a r x p = run-unpacked _ _ (p .0)
+  run-told a r x p = run-unpacked _ _ (p .0 .0)
