@@ -9,6 +9,9 @@ pub mod Starts
 pub mod Complete
 pub mod Told
 pub mod Kept
+pub mod AnyCalls
+pub mod Basin
+pub mod Witness
 pub mod FileRule
 pub mod Files
 pub mod FileRuleKept
