@@ -20,3 +20,5 @@ pub mod CCalls
 pub mod FileHistory
 pub mod FileTold
 pub mod FileKept
+pub mod FileAnyCalls
+pub mod FileWitness
