@@ -5,10 +5,12 @@ use Rattle.rule.specs.declared.Answer.{Answer}
 use Rattle.rule.specs.Rows.{Row}
 use Rattle.rule.specs.Channel.{Channel}
 use Rattle.rule.specs.Calls.{Called, stepCall, filterCall, runCall, runForCall}
+use Rattle.water.specs.History as rule
+use Rattle.water.specs.History.{Call}
 use Rattle.history.specs.Steps as steps
 use Rattle.history.specs.Runs as runs
 use Rattle.history.specs.History as links
-use Rattle.history.specs.History.{Link, History, none, then, answer}
+use Rattle.history.specs.History.{Link, History, none, then, answer, still}
 
 -- a step that pours a row, legal or not, a filter pass, a run, or a run of at most so many steps
 pub data AnyCall : Type 0 where
@@ -32,6 +34,17 @@ channelAfter c (call ∷ calls) = channelAfter (onChannel c call .left) calls
 unfoldable pub answersTo : Channel → List AnyCall → List Answer
 answersTo c [] = []
 answersTo c (call ∷ calls) = onChannel c call .answer ∷ answersTo (onChannel c call .left) calls
+
+-- the rule's calls that they stand for: of a run, as many steps with nothing poured as it accepts
+unfoldable pub callsOf : Channel → AnyCall → List Call
+callsOf c (pour s) = rule.pour s ∷ []
+callsOf c smooth = rule.smooth ∷ []
+callsOf c run = still (c .N) (runCall c .answer .count)
+callsOf c (run-for most) = still (c .N) (runForCall most c .answer .count)
+
+unfoldable pub allCalls : Channel → List AnyCall → List Call
+allCalls c [] = []
+allCalls c (call ∷ calls) = callsOf c call ++ allCalls (onChannel c call .left) calls
 
 -- the calls of a history, and its answers
 unfoldable pub askedBy : {c d : Channel} → Link c d → AnyCall

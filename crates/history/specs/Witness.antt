@@ -2,7 +2,7 @@
 -- answer and what the rule leaves. So the laws about histories are about something. Assumes nothing.
 use Prim.Native.Nat.{ℕ, zero, suc}
 use mathlib.Core.Path.{_≡_, refl, sym, _∙_, ap, subst}
-use mathlib.Core.List.{List, [], _∷_, _++_, append-assoc, append-nil}
+use mathlib.Core.List.{List, [], _∷_, _++_, map, append-assoc, append-nil}
 use contract.Lifetimes.{Lfts}
 use denote.Ref.{RefT}
 use Rattle.rule.specs.declared.Answer.{Answer}
@@ -10,12 +10,14 @@ use Rattle.rule.specs.Rows.{Row}
 use Rattle.rule.specs.Channel.{Channel}
 use Rattle.rule.specs.Calls.{Called, makeCall, readCall, stepCall, filterCall, runCall, runForCall}
 use Rattle.answers.specs.Stages.{leaves}
+use Rattle.water.specs.History as rule
+use Rattle.water.specs.History.{Call, next, after}
 use Rattle.history.specs.Makes as makes
 use Rattle.history.specs.History as links
-use Rattle.history.specs.History.{Start, Link, History, none, then, answer, ruled}
+use Rattle.history.specs.History.{Start, Link, History, none, then, answer, ruled, still, callsBy, calls}
 use Rattle.history.specs.Answers.{run-taken, run-for-taken}
 use Rattle.history.specs.Kept.{answers-are-the-rule's}
-use Rattle.history.specs.AnyCalls.{AnyCall, pour, smooth, run, run-for, onChannel, channelAfter, answersTo, askedBy, asked, answers}
+use Rattle.history.specs.AnyCalls.{AnyCall, pour, smooth, run, run-for, onChannel, channelAfter, answersTo, callsOf, allCalls, askedBy, asked, answers}
 use Rattle.history.specs.Basin.{like, still-like, step-like, filter-like, is-like, made-like, make-like}
 
 -- lifetimes that end never, and a reference to a value
@@ -132,28 +134,63 @@ ruled-is (links.run-for o) = refl
 answer-is : {c d : Channel} (l : Link c d) → answer l ≡ onChannel c (askedBy l) .answer
 answer-is l = ap (λ (k : Called Channel). k .answer) (answers-are-the-rule's l ∙ ruled-is l)
 
--- a history from c to d of these calls, which answer so
-pub record Made (c d : Channel) (calls : List AnyCall) (given : List Answer) : Type 0 where
+-- and it stands for the rule's calls
+calls-are : {c d : Channel} (l : Link c d) → callsBy l ≡ callsOf c (askedBy l)
+unfolding callsBy callsOf askedBy
+calls-are (links.step o) = refl
+calls-are (links.filter o) = refl
+calls-are {c} (links.run o) = ap (λ (k : Called Channel). still (c .N) (k .answer .count)) (o .permitted)
+calls-are {c} (links.run-for o) = ap (λ (k : Called Channel). still (c .N) (k .answer .count)) (o .permitted)
+
+-- a history from c to d of these calls, the rule's for them, which answer so
+pub record Made (c d : Channel) (asking : List AnyCall) (ruled : List Call) (given : List Answer) : Type 0 where
   pub history : History c d
-  pub asks : asked history ≡ calls
+  pub asks : asked history ≡ asking
+  pub calls : calls history ≡ ruled
   pub answers : answers history ≡ given
 
 -- from every channel, by any calls one after the other, to what the rule leaves, with the rule's answers
-goes-on : {c d : Channel} (before : List AnyCall) (given : List Answer) → Made c d before given → (calls : List AnyCall) → Made c (channelAfter d calls) (before ++ calls) (given ++ answersTo d calls)
-unfolding channelAfter answersTo asked answers
-goes-on before given m [] = rw (append-nil, append-nil) m
-goes-on {c} {d} before given m (call ∷ calls) =
-    let w = any-link d call in
-    let k = onChannel d call in
+goes-on : {c d : Channel} (before : List AnyCall) (ruled : List Call) (given : List Answer) → Made c d before ruled given → (asking : List AnyCall) → Made c (channelAfter d asking) (before ++ asking) (ruled ++ allCalls d asking) (given ++ answersTo d asking)
+unfolding channelAfter allCalls answersTo asked calls answers
+goes-on before ruled given m [] = rw (append-nil, append-nil, append-nil) m
+goes-on {c} {d} before ruled given m (ask ∷ asking) =
+    let w = any-link d ask in
+    let k = onChannel d ask in
     let e : answer (w .link) ≡ k .answer = answer-is (w .link) ∙ ap (λ x. onChannel d x .answer) (w .asks) in
-    let n : Made c (k .left) (before ++ (call ∷ [])) (given ++ (k .answer ∷ [])) =
-    record { history = then (m .history) (w .link); asks = rw (m .asks, w .asks); answers = rw (m .answers, e) }
-    in
-    rw (append-assoc, append-assoc) at (goes-on (before ++ (call ∷ [])) (given ++ (k .answer ∷ [])) n calls)
+    let r : callsBy (w .link) ≡ callsOf d ask = calls-are (w .link) ∙ ap (callsOf d) (w .asks) in
+    let n : Made c (k .left) (before ++ (ask ∷ [])) (ruled ++ callsOf d ask) (given ++ (k .answer ∷ [])) =
+    record { history = then (m .history) (w .link); asks = rw (m .asks, w .asks); calls = rw (m .calls, r); answers = rw (m .answers, e) } in
+    rw (append-assoc, append-assoc, append-assoc) at (goes-on (before ++ (ask ∷ [])) (ruled ++ callsOf d ask) (given ++ (k .answer ∷ [])) n asking)
 
-pub any-history : (c : Channel) (calls : List AnyCall) → Made c (channelAfter c calls) calls (answersTo c calls)
-unfolding asked answers
-any-history c calls = goes-on [] [] (record { history = none; asks = refl; answers = refl }) calls
+pub any-history : (c : Channel) (asking : List AnyCall) → Made c (channelAfter c asking) asking (allCalls c asking) (answersTo c asking)
+unfolding asked calls answers
+any-history c asking = goes-on [] [] [] (record { history = none; asks = refl; calls = refl; answers = refl }) asking
+
+-- so too of the rule's calls, whatever they are
+plain : Call → AnyCall
+plain (rule.pour s) = pour s
+plain rule.smooth = smooth
+
+plain-after : (c : Channel) (calls : List Call) → channelAfter c (map plain calls) ≡ after c calls
+unfolding plain channelAfter after onChannel next
+plain-after c [] = refl
+plain-after c (rule.pour s ∷ calls) = plain-after (stepCall c s .left) calls
+plain-after c (rule.smooth ∷ calls) = plain-after (filterCall c .left) calls
+
+plain-calls : (c : Channel) (calls : List Call) → allCalls c (map plain calls) ≡ calls
+unfolding plain allCalls callsOf onChannel
+plain-calls c [] = refl
+plain-calls c (rule.pour s ∷ calls) = ap (λ x. rule.pour s ∷ x) (plain-calls (stepCall c s .left) calls)
+plain-calls c (rule.smooth ∷ calls) = ap (λ x. rule.smooth ∷ x) (plain-calls (filterCall c .left) calls)
+
+pub record RuleMade (c d : Channel) (ruled : List Call) : Type 0 where
+  pub history : History c d
+  pub calls : calls history ≡ ruled
+
+pub any-calls : (c : Channel) (ruled : List Call) → RuleMade c (after c ruled) ruled
+any-calls c ruled =
+    let m = any-history c (map plain ruled) in
+    subst (λ d. RuleMade c d ruled) (plain-after c ruled) (record { history = m .history; calls = m .calls ∙ plain-calls c ruled })
 
 -- and to start from: every channel that the rule makes or reads
 pub make-start : (c : Channel) → makeCall c .answer .number ≡ 0 → Start (makeCall c .left)
