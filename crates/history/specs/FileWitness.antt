@@ -1,37 +1,23 @@
 -- Histories of any calls over bytes exist: from all bytes each call, of on_file, the running program's or from C, has an outcome
 -- that its contract permits, with the rule's answer and the bytes that the rule leaves. Assumes nothing.
 use Prim.Native.Nat.{ℕ}
-use mathlib.Core.Path.{_≡_, refl, sym, _∙_, ap, subst}
+use mathlib.Core.Path.{_≡_, refl, _∙_, ap, subst}
 use mathlib.Core.List.{List, [], _∷_, _++_, map, append-assoc, append-nil}
 use lib.ListN.{length, take}
 use lib.Seq.{take-length}
 use Rattle.rule.specs.declared.Answer.{Answer}
-use Rattle.rule.specs.Channel.{Channel}
-use Rattle.rule.specs.Refusals.{Outcome, refused, done}
-use Rattle.rule.specs.Calls.{Called, onFile, packed, checkFile, makeFile, stepFile, filterFile, runForFile, runFile}
+use Rattle.rule.specs.Calls.{Called, packed, checkFile, makeFile, stepFile, filterFile, runForFile, runFile}
 use Rattle.little.specs.Numbers.{AreBytes}
-use Rattle.files.specs.Whole.{bytes-file}
 use Rattle.on_file.specs.Ran.{inBuffer, run-leaves}
 use Rattle.pathpetal.specs.Packed.{make-unpacked, check-unpacked}
 use Rattle.history.specs.Witness.{forever, ref}
 use Rattle.history.specs.FileRule as rule
 use Rattle.history.specs.FileRule.{FileCall, pour, smooth, onBytes, fileAfter}
+use Rattle.history.specs.FileOne.{bytes-stay}
 use Rattle.history.specs.FileHistory as links
 use Rattle.history.specs.FileHistory.{FileStart, FileLink, FileHistory, none, then, answer, ruled, callBy, calls}
 use Rattle.history.specs.FileKept.{file-answers-are-the-rule's}
 use Rattle.history.specs.FileAnyCalls.{AnyFileCall, step, filter, run-for, run, c-step, c-filter, c-run, callOf, fileAnswersTo, askedBy, asked, answers}
-
--- what a call leaves of bytes are bytes
-by-read : (f : Channel → Called Channel) (s : List ℕ) (m : Outcome Channel) → AreBytes s → AreBytes (onFile f s m .left)
-unfolding onFile
-by-read f s (refused r k) b = b
-by-read f s (done c) b = bytes-file (f c .left)
-
-pub bytes-stay : (s : List ℕ) (call : FileCall) → AreBytes s → AreBytes (onBytes s call .left)
-unfolding onBytes stepFile filterFile runForFile
-bytes-stay s (pour p) b = by-read _ s _ b
-bytes-stay s smooth b = by-read _ s _ b
-bytes-stay s (rule.run-for most) b = by-read _ s _ b
 
 -- the running program writes all of what it made
 written : (s t : List ℕ) → take (length t) (inBuffer s t) ≡ t

@@ -20,5 +20,6 @@ pub mod CCalls
 pub mod FileHistory
 pub mod FileTold
 pub mod FileKept
+pub mod FileOne
 pub mod FileAnyCalls
 pub mod FileWitness

@@ -1,7 +1,7 @@
 -- Histories of any calls exist: from every channel each call has an outcome that the library's contract permits, with the rule's
 -- answer and what the rule leaves. So the laws about histories are about something. Assumes nothing.
 use Prim.Native.Nat.{ℕ, zero, suc}
-use mathlib.Core.Path.{_≡_, refl, sym, _∙_, ap, subst}
+use mathlib.Core.Path.{_≡_, refl, _∙_, ap, subst}
 use mathlib.Core.List.{List, [], _∷_, _++_, map, append-assoc, append-nil}
 use contract.Lifetimes.{Lfts}
 use denote.Ref.{RefT}
