@@ -1,5 +1,5 @@
 -- What C calls: an outcome of a call of `pathpetal_step`, `pathpetal_filter`, `pathpetal_run`, `pathpetal_check` or `pathpetal_make`,
--- any that its contract permits. Its answer is what number, stage and count are taken out of the number that C gets.
+-- any that its contract permits. Its answer is what is taken out of the one number that C gets.
 use Prim.Native.Nat.{ℕ}
 use mathlib.Core.List.{List}
 use contract.Lifetimes.{Lfts}

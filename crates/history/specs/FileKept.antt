@@ -5,17 +5,19 @@ use mathlib.Core.Path.{_≡_, refl, sym, _∙_, ap, subst}
 use mathlib.Core.List.{List}
 use native.Mathlib.Omega.{arith}
 use lib.IntN.{_+ℤ_, +ℤ-idr, +ℤ-assoc}
+use lib.ListN.{length}
 use Rattle.rule.specs.declared.Answer.{Answer}
 use Rattle.rule.specs.Refusals.{numberOf}
 use Rattle.rule.specs.File.{countOf}
 use Rattle.rule.specs.Calls.{Called, read, makeFile}
 use Rattle.little.specs.Numbers.{AreBytes}
 use Rattle.on_file.specs.Kept.{leaving}
+use Rattle.on_file.specs.Ran.{run-leaves, run-writes-all, run-writes-none}
 use Rattle.on_file.specs.Stays.{Refused, Stepless, step-refused-file-stays, filter-refused-file-stays, stepless-run-file-stays}
 use Rattle.pathpetal.specs.Packed.{make-unpacked, check-unpacked}
 use Rattle.history.specs.FileRule.{FileCall, pour, smooth, run-for, onBytes, fileAfter, heights}
 use Rattle.history.specs.Files.{taken-bounded, make-file-taken, check-taken}
-use Rattle.history.specs.FileCalls.{check-bytes}
+use Rattle.history.specs.FileCalls.{Run, run-entry, run-exit, run-written, check-bytes}
 use Rattle.history.specs.CCalls as c
 use Rattle.history.specs.FileHistory.{FileStart, made, checked, c-made, c-checked, FileLink, FileHistory, none, then, pouredBy, poured, accepted, answer, ruled, callBy, calls}
 use Rattle.history.specs.FileTold.{both, told, lent, left, all-left}
@@ -71,6 +73,20 @@ unfolding ruled
 library-file-refused-stays {s} l w =
     ap (λ (k : Called (List ℕ)). k .left) (told l)
     ∙ idle s (callBy l) (lent l) (subst (λ (k : Called (List ℕ)). Idle (callBy l) (k .answer)) (told l) w)
+
+-- the running program's call answers how many bytes to write: all that it leaves where the reader takes what it was lent, else none
+pub record Writes (s t : List ℕ) (n : ℕ) : Type 0 where
+  pub all : numberOf (read s) ≡ 0 → n ≡ length t
+  pub nothing : (numberOf (read s) ≡ 0 → ⊥) → n ≡ 0
+
+pub library-program-writes : (o : Run) → Writes (run-entry o) (run-exit o) (run-written o)
+library-program-writes o =
+    let s = run-entry o in
+    let p = o .permitted .0 .1 in
+    record {
+      all = λ z. p .0 ∙ ap length (run-writes-all s z ∙ sym (run-leaves s) ∙ sym (p .1));
+      nothing = λ w. p .0 ∙ ap length (run-writes-none s w);
+    }
 
 -- what the maker or the reader accepts is read
 of-made : {a : Answer} {s : List ℕ} {k : Called (List ℕ)} → leaving a s ≡ k → (k .answer .number ≡ 0 → numberOf (read (k .left)) ≡ 0) → a .number ≡ 0 → numberOf (read s) ≡ 0
