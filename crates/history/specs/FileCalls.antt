@@ -1,5 +1,5 @@
--- The calls over the bytes of a channel file: an outcome of a call of `on_file::step`, `filter`, `run_for` or `check`, or of
--- `make_file::make`, any that its contract permits.
+-- The calls over the bytes of a channel file: an outcome of a call of `on_file::step`, `filter`, `run_for` or `check`, of
+-- `on_file::run`, which is the running program's, or of `make_file::make`, any that its contract permits.
 use Prim.Native.Nat.{ℕ}
 use mathlib.Core.List.{List}
 use contract.Lifetimes.{Lfts}
@@ -13,6 +13,8 @@ use Rattle.on_file.proofs.filter.Kinds as filter-kinds
 use Rattle.on_file.proofs.filter.Reads as filter-reads
 use Rattle.on_file.proofs.run_for.Kinds as run-for-kinds
 use Rattle.on_file.proofs.run_for.Reads as run-for-reads
+use Rattle.on_file.proofs.run.Kinds as run-kinds
+use Rattle.on_file.proofs.run.Reads as run-reads
 use Rattle.on_file.proofs.check.Kinds as check-kinds
 use Rattle.on_file.proofs.check.Reads as check-reads
 use Rattle.make_file.proofs.make.Kinds as make-kinds
@@ -38,6 +40,13 @@ pub record RunFor : Type 0 where
   pub r : resT run-for-kinds.r κs .Denot
   pub x : AtExit (endedOf 1 run-for-kinds.ps run-for-kinds.r) κs
   pub permitted : run-for-reads.Post κs a r x
+
+pub record Run : Type 0 where
+  pub κs : Lfts 1
+  pub a : Dens κs run-kinds.ps
+  pub r : resT run-kinds.r κs .Denot
+  pub x : AtExit (endedOf 1 run-kinds.ps run-kinds.r) κs
+  pub permitted : run-reads.Post κs a r x
 
 pub record Check : Type 0 where
   pub κs : Lfts 1
@@ -89,6 +98,17 @@ module _ (o : RunFor) where
 
   abbrev pub run-for-answer : Answer
   run-for-answer = o .r
+
+-- it answers how many bytes are to be written
+module _ (o : Run) where
+  abbrev pub run-entry : List ℕ
+  run-entry = now (o .a .0)
+
+  abbrev pub run-exit : List ℕ
+  run-exit = now (o .x .0)
+
+  abbrev pub run-written : ℕ
+  run-written = o .r
 
 module _ (o : Check) where
   abbrev pub check-bytes : List ℕ

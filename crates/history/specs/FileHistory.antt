@@ -1,36 +1,65 @@
 -- A history of the library's own calls over the bytes of a channel file, one after the other, each with any bytes and any outcome
--- that its contract permits: what it poured, and how many steps it had accepted.
+-- that its contract permits: what it poured, and how many steps it had accepted. Calls from C and the running program's among them.
 use Prim.Native.Nat.{ℕ, _+_}
 use mathlib.Core.Path.{_≡_}
 use mathlib.Core.List.{List, [], _∷_, _++_}
 use lib.IntN.{ℤ, pos, _+ℤ_}
 use Rattle.rule.specs.declared.Answer.{Answer}
-use Rattle.rule.specs.Calls.{Called, rowIn, stepFile, filterFile, runForFile}
-use Rattle.history.specs.History.{amount, one}
+use Rattle.rule.specs.Calls.{Called, runForFile}
 use Rattle.history.specs.FileRule as rule
-use Rattle.history.specs.FileCalls.{Step, Filter, RunFor, Check, Make, step-entry, step-exit, step-row, step-answer, filter-entry, filter-exit, filter-answer, run-for-most, run-for-entry, run-for-exit, run-for-answer, check-bytes, check-answer, make-exit, make-answer}
+use Rattle.history.specs.FileRule.{FileCall, pour, smooth, onBytes, pouredWith, acceptedWith}
+use Rattle.history.specs.FileCalls.{Step, Filter, RunFor, Run, Check, Make, step-entry, step-exit, step-row, step-answer, filter-entry, filter-exit, filter-answer, run-for-most, run-for-entry, run-for-exit, run-for-answer, run-entry, run-exit, check-bytes, check-answer, make-exit, make-answer}
+use Rattle.history.specs.CCalls as c
 
 -- bytes that the maker or the reader accepts
 pub data FileStart : List ℕ → Type 0 where
   made : (o : Make) → make-answer o .number ≡ 0 → FileStart (make-exit o)
   checked : (o : Check) → check-answer o .number ≡ 0 → FileStart (check-bytes o)
+  c-made : (o : c.Make) → c.make-answer o .number ≡ 0 → FileStart (c.make-exit o)
+  c-checked : (o : c.Check) → c.check-answer o .number ≡ 0 → FileStart (c.check-bytes o)
 
 -- one call, from the bytes that it is lent to the bytes that it leaves
 pub data FileLink : List ℕ → List ℕ → Type 0 where
   step : (o : Step) → FileLink (step-entry o) (step-exit o)
   filter : (o : Filter) → FileLink (filter-entry o) (filter-exit o)
   run-for : (o : RunFor) → FileLink (run-for-entry o) (run-for-exit o)
+  run : (o : Run) → FileLink (run-entry o) (run-exit o)
+  c-step : (o : c.Step) → FileLink (c.step-entry o) (c.step-exit o)
+  c-filter : (o : c.Filter) → FileLink (c.filter-entry o) (c.filter-exit o)
+  c-run : (o : c.Run) → FileLink (c.run-entry o) (c.run-exit o)
 
 -- calls one after the other, each lent what the one before left
 pub data FileHistory (s : List ℕ) : List ℕ → Type 0 where
   none : FileHistory s s
   then : {between t : List ℕ} → FileHistory s between → FileLink between t → FileHistory s t
 
+-- the rule's call that it stands for
+unfoldable pub callBy : {s t : List ℕ} → FileLink s t → FileCall
+callBy (step o) = pour (step-row o)
+callBy (filter o) = smooth
+callBy (run-for o) = rule.run-for (run-for-most o)
+callBy (run o) = rule.run-for 1_000_000
+callBy (c-step o) = pour (c.step-row o)
+callBy (c-filter o) = smooth
+callBy (c-run o) = rule.run-for (c.run-most o)
+
+-- the answer. The running program's call gives no number but how many bytes to write: for it the rule's answer stands
+unfoldable pub answer : {s t : List ℕ} → FileLink s t → Answer
+answer (step o) = step-answer o
+answer (filter o) = filter-answer o
+answer (run-for o) = run-for-answer o
+answer (run o) = runForFile 1_000_000 (run-entry o) .answer
+answer (c-step o) = c.step-answer o
+answer (c-filter o) = c.filter-answer o
+answer (c-run o) = c.run-answer o
+
+-- what the rule answers and leaves for the same call
+unfoldable pub ruled : {s t : List ℕ} → FileLink s t → Called (List ℕ)
+ruled {s} l = onBytes s (callBy l)
+
 -- what was poured: the rows of exactly those step calls that answered number 0
 unfoldable pub pouredBy : {s t : List ℕ} → FileLink s t → ℤ
-pouredBy (step o) = amount (step-answer o) (rowIn (step-row o))
-pouredBy (filter o) = pos 0
-pouredBy (run-for o) = pos 0
+pouredBy l = pouredWith (callBy l) (answer l)
 
 unfoldable pub poured : {s t : List ℕ} → FileHistory s t → ℤ
 poured none = pos 0
@@ -38,31 +67,13 @@ poured (then h l) = poured h +ℤ pouredBy l
 
 -- how many steps were accepted: step calls that answered number 0, and the counts that runs answered
 unfoldable pub acceptedBy : {s t : List ℕ} → FileLink s t → ℕ
-acceptedBy (step o) = one (step-answer o)
-acceptedBy (filter o) = 0
-acceptedBy (run-for o) = run-for-answer o .count
+acceptedBy l = acceptedWith (callBy l) (answer l)
 
 unfoldable pub accepted : {s t : List ℕ} → FileHistory s t → ℕ
 accepted none = 0
 accepted (then h l) = accepted h + acceptedBy l
 
--- the answer, and what the rule answers and leaves for the same call
-unfoldable pub answer : {s t : List ℕ} → FileLink s t → Answer
-answer (step o) = step-answer o
-answer (filter o) = filter-answer o
-answer (run-for o) = run-for-answer o
-
-unfoldable pub ruled : {s t : List ℕ} → FileLink s t → Called (List ℕ)
-ruled (step o) = stepFile (step-entry o) (step-row o)
-ruled (filter o) = filterFile (filter-entry o)
-ruled (run-for o) = runForFile (run-for-most o) (run-for-entry o)
-
 -- the rule's history
-unfoldable pub callBy : {s t : List ℕ} → FileLink s t → rule.FileCall
-callBy (step o) = rule.pour (step-row o)
-callBy (filter o) = rule.smooth
-callBy (run-for o) = rule.run-for (run-for-most o)
-
-unfoldable pub calls : {s t : List ℕ} → FileHistory s t → List rule.FileCall
+unfoldable pub calls : {s t : List ℕ} → FileHistory s t → List FileCall
 calls none = []
 calls (then h l) = calls h ++ (callBy l ∷ [])

@@ -3,6 +3,7 @@
 use Prim.Native.Nat.{ℕ, _+_}
 use mathlib.Core.List.{List, [], _∷_}
 use lib.IntN.{ℤ, pos, _+ℤ_}
+use Rattle.rule.specs.declared.Answer.{Answer}
 use Rattle.rule.specs.Rows.{sum}
 use Rattle.rule.specs.File.{countOf, rowOf}
 use Rattle.rule.specs.Calls.{Called, rowIn, stepFile, filterFile, runForFile}
@@ -29,21 +30,28 @@ fileAfter s (call ∷ calls) = fileAfter (onBytes s call .left) calls
 unfoldable pub heights : List ℕ → ℤ
 heights s = sum (rowOf (countOf s 1) s 1)
 
--- the rows of exactly those steps that answered number 0
+-- what a call pours by its answer: the rows of exactly those steps that answer number 0
+unfoldable pub pouredWith : FileCall → Answer → ℤ
+pouredWith (pour p) r = amount r (rowIn p)
+pouredWith smooth r = pos 0
+pouredWith (run-for most) r = pos 0
+
+-- and how many steps it accepts: steps that answer number 0, and the counts that runs answer
+unfoldable pub acceptedWith : FileCall → Answer → ℕ
+acceptedWith (pour p) r = one r
+acceptedWith smooth r = 0
+acceptedWith (run-for most) r = r .count
+
+-- on the bytes s, as the rule answers
 unfoldable pub filePouredBy : List ℕ → FileCall → ℤ
-filePouredBy s (pour p) = amount (stepFile s p .answer) (rowIn p)
-filePouredBy s smooth = pos 0
-filePouredBy s (run-for most) = pos 0
+filePouredBy s call = pouredWith call (onBytes s call .answer)
 
 unfoldable pub filePoured : List ℕ → List FileCall → ℤ
 filePoured s [] = pos 0
 filePoured s (call ∷ calls) = filePouredBy s call +ℤ filePoured (onBytes s call .left) calls
 
--- steps that answered number 0, and the counts that runs answered
 unfoldable pub fileAcceptedBy : List ℕ → FileCall → ℕ
-fileAcceptedBy s (pour p) = one (stepFile s p .answer)
-fileAcceptedBy s smooth = 0
-fileAcceptedBy s (run-for most) = runForFile most s .answer .count
+fileAcceptedBy s call = acceptedWith call (onBytes s call .answer)
 
 unfoldable pub fileAccepted : List ℕ → List FileCall → ℕ
 fileAccepted s [] = 0

@@ -2,34 +2,55 @@
 use Prim.Native.Nat.{ℕ}
 use mathlib.Core.Path.{_≡_, refl, sym, _∙_, ap, subst}
 use mathlib.Core.List.{List, [], _∷_, _++_}
-use lib.IntN.{pos}
-use Rattle.rule.specs.Calls.{Called, rowIn}
-use Rattle.history.specs.History.{amount, one}
-use Rattle.history.specs.FileRule as rule
-use Rattle.history.specs.FileRule.{FileCall, onBytes, fileAfter, filePouredBy, fileAcceptedBy}
+use Rattle.rule.specs.declared.Answer.{Answer}
+use Rattle.rule.specs.Calls.{Called, stepFile, filterFile, runForFile}
+use Rattle.little.specs.Numbers.{AreBytes}
+use Rattle.on_file.specs.Kept.{leaving}
+use Rattle.on_file.specs.Ran.{run-leaves}
+use Rattle.pathpetal.specs.Packed.{step-unpacked, filter-unpacked, run-unpacked}
+use Rattle.history.specs.FileRule.{FileCall, onBytes, fileAfter, pouredWith, acceptedWith, filePouredBy, fileAcceptedBy}
 use Rattle.history.specs.Files.{Left, call-left}
-use Rattle.history.specs.FileCalls.{step-entry, step-row, filter-entry, run-for-most, run-for-entry}
-use Rattle.history.specs.FileHistory.{FileLink, step, filter, run-for, FileHistory, none, then, pouredBy, acceptedBy, callBy, calls}
+use Rattle.history.specs.FileCalls.{run-entry}
+use Rattle.history.specs.CCalls as c
+use Rattle.history.specs.FileHistory.{FileLink, step, filter, run-for, run, c-step, c-filter, c-run, FileHistory, none, then, pouredBy, acceptedBy, answer, ruled, callBy, calls}
+
+-- an answer and bytes that are a call's
+pub both : (k : Called (List ℕ)) {a : Answer} {t : List ℕ} → a ≡ k .answer → t ≡ k .left → leaving a t ≡ k
+both k p q = rw (p, q)
+
+-- each call answers as the rule does, and leaves the bytes that the rule leaves
+pub told : {s t : List ℕ} (l : FileLink s t) → leaving (answer l) t ≡ ruled l
+unfolding answer ruled callBy onBytes
+told (step o) = o .permitted .0
+told (filter o) = o .permitted .0
+told (run-for o) = o .permitted .0
+told (run o) = let s = run-entry o in both (runForFile 1_000_000 s) refl (o .permitted .0 .1 .1 ∙ run-leaves s)
+told (c-step o) =
+    let s = c.step-entry o in
+    let p = c.step-row o in
+    both (stepFile s p) (step-unpacked s p (o .permitted .0 .0)) (o .permitted .0 .1)
+told (c-filter o) = let s = c.filter-entry o in both (filterFile s) (filter-unpacked s (o .permitted .0 .0)) (o .permitted .0 .1)
+told (c-run o) =
+    let s = c.run-entry o in
+    let most = c.run-most o in
+    both (runForFile most s) (run-unpacked most s (o .permitted .0 .0)) (o .permitted .0 .1)
+
+-- and what it is lent are bytes
+pub lent : {s t : List ℕ} → FileLink s t → AreBytes s
+lent (step o) = o .permitted .1
+lent (filter o) = o .permitted .1
+lent (run-for o) = o .permitted .1
+lent (run o) = o .permitted .1
+lent (c-step o) = o .permitted .1
+lent (c-filter o) = o .permitted .1
+lent (c-run o) = o .permitted .1
 
 -- what one call leaves
 pub left : {s t : List ℕ} (l : FileLink s t) → Left s t (pouredBy l) (acceptedBy l)
-unfolding pouredBy acceptedBy onBytes filePouredBy fileAcceptedBy
-left (step o) =
-    let s = step-entry o in
-    let p = rowIn (step-row o) in
-    subst (λ (k : Called (List ℕ)). Left s (k .left) (amount (k .answer) p) (one (k .answer))) (sym (o .permitted)) (call-left s (rule.pour (step-row o)))
-left (filter o) =
-    let s = filter-entry o in
-    subst (λ (k : Called (List ℕ)). Left s (k .left) (pos 0) 0) (sym (o .permitted)) (call-left s rule.smooth)
-left (run-for o) =
-    let s = run-for-entry o in
-    subst (λ (k : Called (List ℕ)). Left s (k .left) (pos 0) (k .answer .count)) (sym (o .permitted)) (call-left s (rule.run-for (run-for-most o)))
-
-left-is : {s t : List ℕ} (l : FileLink s t) → t ≡ onBytes s (callBy l) .left
-unfolding callBy onBytes
-left-is (step o) = ap (λ (k : Called (List ℕ)). k .left) (o .permitted)
-left-is (filter o) = ap (λ (k : Called (List ℕ)). k .left) (o .permitted)
-left-is (run-for o) = ap (λ (k : Called (List ℕ)). k .left) (o .permitted)
+unfolding pouredBy acceptedBy ruled filePouredBy fileAcceptedBy
+left {s} l =
+    let call = callBy l in
+    subst (λ (k : Called (List ℕ)). Left s (k .left) (pouredWith call (k .answer)) (acceptedWith call (k .answer))) (sym (told l)) (call-left s call)
 
 after-append : (s : List ℕ) (xs ys : List FileCall) → fileAfter s (xs ++ ys) ≡ fileAfter (fileAfter s xs) ys
 unfolding fileAfter
@@ -38,6 +59,9 @@ after-append s (x ∷ xs) ys = after-append (onBytes s x .left) xs ys
 
 -- and what all calls of a history leave
 pub all-left : {s t : List ℕ} (h : FileHistory s t) → t ≡ fileAfter s (calls h)
-unfolding calls fileAfter
+unfolding calls fileAfter ruled
 all-left none = refl
-all-left {s} (then h l) = left-is l ∙ ap (λ x. onBytes x (callBy l) .left) (all-left h) ∙ sym (after-append s (calls h) (callBy l ∷ []))
+all-left {s} (then h l) =
+    ap (λ (k : Called (List ℕ)). k .left) (told l)
+    ∙ ap (λ x. onBytes x (callBy l) .left) (all-left h)
+    ∙ sym (after-append s (calls h) (callBy l ∷ []))

@@ -34,7 +34,7 @@ use Rattle.water.specs.Starts.{make-passes}
 use Rattle.history.specs.History.{amount, one, still}
 use Rattle.history.specs.Answers.{step-amount, step-one, still-poured, run-for-taken}
 use Rattle.history.specs.FileRule as files
-use Rattle.history.specs.FileRule.{FileCall, run-for, onBytes, heights, filePouredBy, fileAcceptedBy}
+use Rattle.history.specs.FileRule.{FileCall, run-for, onBytes, heights, pouredWith, acceptedWith, filePouredBy, fileAcceptedBy}
 
 -- checks that pass with a poured row pass without it
 allowed-less : (c : Channel) (given : List Row) → allowed c given ≡ done tt → allowed c [] ≡ done tt
@@ -147,7 +147,7 @@ unfolding amount one
 none-poured s r stage = rw (ne-eqb _ 0 (number-not-0 r)) (refl, refl)
 
 pub call-left : (s : List ℕ) (call : FileCall) → Left s (onBytes s call .left) (filePouredBy s call) (fileAcceptedBy s call)
-unfolding onBytes filePouredBy fileAcceptedBy stepFile filterFile runForFile read
+unfolding onBytes pouredWith acceptedWith filePouredBy fileAcceptedBy stepFile filterFile runForFile read
 call-left s (files.pour p) =
     by-file (λ c. stepCall c (rowIn p)) (λ a. amount a (rowIn p)) one (step-moves (rowIn p)) (none-poured (rowIn p)) s (holds p) (rowIn p ∷ [])
 call-left s files.smooth = by-file filterCall (λ a. pos 0) (λ a. 0) filter-moves (λ r stage. (refl, refl)) s (λ _. true) []

@@ -9,10 +9,17 @@ pub mod Starts
 pub mod Complete
 pub mod Told
 pub mod Kept
+pub mod AnyCalls
+pub mod Basin
+pub mod Witness
 pub mod FileRule
 pub mod Files
 pub mod FileRuleKept
 pub mod FileCalls
+pub mod CCalls
 pub mod FileHistory
 pub mod FileTold
 pub mod FileKept
+pub mod FileOne
+pub mod FileAnyCalls
+pub mod FileWitness

@@ -1,13 +1,16 @@
-// The calls over the bytes of a channel file: the channel is read, the call is made, and what it leaves is written back.
+// The calls over the bytes of a channel file: the channel is read, the call is made, and what it leaves is written back. Each
+// contract says last that what is lent are bytes, as the language knows of any `[u8]`: theorems about outcomes go by contracts.
 ghost use mathlib.Core.Path.{_≡_};
 ghost use lib.ListN.{length, take};
 ghost use Rattle.rule.specs.Calls.{checkFile, stepFile, filterFile, runForFile, runFile};
+ghost use Rattle.little.specs.Numbers.{AreBytes};
 ghost use Rattle.on_file.specs.Kept.{leaving};
 ghost use Rattle.on_file.specs.Ran.{inBuffer};
 
 // Whether bytes are a channel file.
 pub fn check(s: &[u8]) -> rule::Answer
     ensures { λ r. ⌜ r ≡ checkFile (now (s .entry)) ⌝ }
+    ensures { λ _. ⌜ AreBytes (now (s .entry)) ⌝ }
 {
     rule::Answer {
         number: reader::check(s, false, s),
@@ -19,6 +22,7 @@ pub fn check(s: &[u8]) -> rule::Answer
 // One step, with a row poured. The file becomes that of the channel after it, or stays as it was.
 pub fn step(file: &mut [u8], poured: &[u8]) -> rule::Answer
     ensures { λ r. ⌜ leaving r (now (file .exit)) ≡ stepFile (now (file .entry)) (now (poured .entry)) ⌝ }
+    ensures { λ _. ⌜ AreBytes (now (file .entry)) ⌝ }
 {
     let number = reader::check(file, true, poured);
     if number != 0 {
@@ -56,6 +60,7 @@ pub fn step(file: &mut [u8], poured: &[u8]) -> rule::Answer
 // One filter pass.
 pub fn filter(file: &mut [u8]) -> rule::Answer
     ensures { λ r. ⌜ leaving r (now (file .exit)) ≡ filterFile (now (file .entry)) ⌝ }
+    ensures { λ _. ⌜ AreBytes (now (file .entry)) ⌝ }
 {
     let number = reader::check(file, false, file);
     if number != 0 {
@@ -91,6 +96,7 @@ pub fn filter(file: &mut [u8]) -> rule::Answer
 // Steps with nothing poured: at most `most`, until complete or refused.
 pub fn run_for(most: u64, file: &mut [u8]) -> rule::Answer
     ensures { λ r. ⌜ leaving r (now (file .exit)) ≡ runForFile most (now (file .entry)) ⌝ }
+    ensures { λ _. ⌜ AreBytes (now (file .entry)) ⌝ }
 {
     let number = reader::check(file, false, file);
     if number != 0 {
@@ -128,6 +134,7 @@ pub fn run_for(most: u64, file: &mut [u8]) -> rule::Answer
 // none, and the bytes stay as they were, where the reader refuses them.
 pub fn run(file: &mut [u8]) -> usize
     ensures { λ r. ⌜ (take r (now (file .exit)) ≡ runFile (now (file .entry))) × ((r ≡ length (runFile (now (file .entry)))) × (now (file .exit) ≡ inBuffer (now (file .entry)) (runFile (now (file .entry))))) ⌝ }
+    ensures { λ _. ⌜ AreBytes (now (file .entry)) ⌝ }
 {
     let number = reader::check(file, false, file);
     if number != 0 {

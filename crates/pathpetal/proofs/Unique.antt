@@ -33,14 +33,14 @@ module _ (κs : Lfts 4) where
 
 module _ (κs : Lfts 2) where
   pub one-outcome-step : (a : Dens κs step-kinds.ps) (r r′ : resT step-kinds.r κs .Denot) (x x′ : AtExit (endedOf 2 step-kinds.ps step-kinds.r) κs) → step-reads.Post κs a r x → step-reads.Post κs a r′ x′ → Coincide r r′ (now (x .0)) (now (x′ .0))
-  one-outcome-step a r r′ x x′ p p′ = coincide p p′
+  one-outcome-step a r r′ x x′ p p′ = coincide (p .0) (p′ .0)
 
 module _ (κs : Lfts 1) where
   pub one-outcome-check : (a : Dens κs check-kinds.ps) (r r′ : resT check-kinds.r κs .Denot) (x x′ : AtExit (endedOf 1 check-kinds.ps check-kinds.r) κs) → check-reads.Post κs a r x → check-reads.Post κs a r′ x′ → _≡_ {A = ℕ} r r′
-  one-outcome-check a r r′ x x′ p p′ = p ∙ sym p′
+  one-outcome-check a r r′ x x′ p p′ = p .0 ∙ sym (p′ .0)
 
   pub one-outcome-filter : (a : Dens κs filter-kinds.ps) (r r′ : resT filter-kinds.r κs .Denot) (x x′ : AtExit (endedOf 1 filter-kinds.ps filter-kinds.r) κs) → filter-reads.Post κs a r x → filter-reads.Post κs a r′ x′ → Coincide r r′ (now (x .0)) (now (x′ .0))
-  one-outcome-filter a r r′ x x′ p p′ = coincide p p′
+  one-outcome-filter a r r′ x x′ p p′ = coincide (p .0) (p′ .0)
 
   pub one-outcome-run : (a : Dens κs run-kinds.ps) (r r′ : resT run-kinds.r κs .Denot) (x x′ : AtExit (endedOf 1 run-kinds.ps run-kinds.r) κs) → run-reads.Post κs a r x → run-reads.Post κs a r′ x′ → Coincide r r′ (now (x .0)) (now (x′ .0))
-  one-outcome-run a r r′ x x′ p p′ = coincide p p′
+  one-outcome-run a r r′ x x′ p p′ = coincide (p .0) (p′ .0)

@@ -1,6 +1,7 @@
 // What C calls: each call over the bytes of a channel file, with its answer packed into one number.
 ghost use mathlib.Core.Path.{_≡_};
 ghost use Rattle.rule.specs.Calls.{packed, checkFile, stepFile, filterFile, runForFile, makeFile};
+ghost use Rattle.little.specs.Numbers.{AreBytes};
 ghost use Rattle.pathpetal.specs.Small.{Small};
 
 // An answer in one number.
@@ -41,6 +42,7 @@ pub extern "C" fn pathpetal_make(
 #[no_mangle]
 pub extern "C" fn pathpetal_check(file: &[u8]) -> u64
     ensures { λ r. ⌜ r ≡ packed (checkFile (now (file .entry))) ⌝ }
+    ensures { λ _. ⌜ AreBytes (now (file .entry)) ⌝ }
 {
     pack(on_file::check(file))
 }
@@ -49,6 +51,7 @@ pub extern "C" fn pathpetal_check(file: &[u8]) -> u64
 #[no_mangle]
 pub extern "C" fn pathpetal_step(file: &mut [u8], poured: &[u8]) -> u64
     ensures { λ r. ⌜ (r ≡ packed (stepFile (now (file .entry)) (now (poured .entry)) .answer)) × (now (file .exit) ≡ stepFile (now (file .entry)) (now (poured .entry)) .left) ⌝ }
+    ensures { λ _. ⌜ AreBytes (now (file .entry)) ⌝ }
 {
     pack(on_file::step(file, poured))
 }
@@ -57,6 +60,7 @@ pub extern "C" fn pathpetal_step(file: &mut [u8], poured: &[u8]) -> u64
 #[no_mangle]
 pub extern "C" fn pathpetal_filter(file: &mut [u8]) -> u64
     ensures { λ r. ⌜ (r ≡ packed (filterFile (now (file .entry)) .answer)) × (now (file .exit) ≡ filterFile (now (file .entry)) .left) ⌝ }
+    ensures { λ _. ⌜ AreBytes (now (file .entry)) ⌝ }
 {
     pack(on_file::filter(file))
 }
@@ -65,6 +69,7 @@ pub extern "C" fn pathpetal_filter(file: &mut [u8]) -> u64
 #[no_mangle]
 pub extern "C" fn pathpetal_run(file: &mut [u8], most: u64) -> u64
     ensures { λ r. ⌜ (r ≡ packed (runForFile most (now (file .entry)) .answer)) × (now (file .exit) ≡ runForFile most (now (file .entry)) .left) ⌝ }
+    ensures { λ _. ⌜ AreBytes (now (file .entry)) ⌝ }
 {
     pack(on_file::run_for(most, file))
 }

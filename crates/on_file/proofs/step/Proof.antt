@@ -6,6 +6,7 @@ use mathlib.Core.List.{List, [], _∷_}
 use mathlib.Core.Path.{_≡_, sym, _∙_}
 use lib.Seq.{length-take-le}
 use Rattle.rule.specs.Calls.{rowIn, stepCall}
+use Rattle.little.specs.Numbers.{AreBytes}
 use Rattle.reader.specs.Reader.{fitsIn}
 use Rattle.reader.specs.Held.{poured-bytes}
 use Rattle.reader.specs.Opened.{Opened, opened-of}
@@ -29,6 +30,10 @@ taken c = opened-of _ (rowIn (given c) ∷ []) (lent c) (omega (arith, c .if1 .l
 long : (c : tie.After-opened) → fitsIn true (given (c .before .before)) (c .opened .result .n) ≡ true
 long c = poured-fits (given (c .before .before)) (lent (c .before .before)) (taken (c .before .before)) (c .opened .result) (c .opened .ensures)
 
+-- its entries are bytes
+bytes : (c : tie.After-check) → AreBytes (c .before .before .before .before .args .file .now)
+bytes c i = omega (arith, c .before .before .before .slice-known .given i)
+
 check-requires : tie.Need-check-requires
 check-requires c κs = search needs
 
@@ -36,7 +41,7 @@ same-length : tie.Need-same-length
 same-length c = search needs
 
 returns : tie.Need-returns
-returns c = let s = c .before .before .before .before .before .args .file .now in let p = c .before .before .before .before .before .args .poured .now in refused-by (λ x. stepCall x (rowIn p)) (fitsIn true p) (rowIn p ∷ []) s (c .before .check .result) (c .before .check .ensures) (c .if1 .taken) ∙ step-file-is s p
+returns c = let s = c .before .before .before .before .before .args .file .now in let p = c .before .before .before .before .before .args .poured .now in (refused-by (λ x. stepCall x (rowIn p)) (fitsIn true p) (rowIn p ∷ []) s (c .before .check .result) (c .before .check .ensures) (c .if1 .taken) ∙ step-file-is s p, bytes (c .before))
 
 opened-requires : tie.Need-opened-requires
 opened-requires c κs = right (taken (c .before))
@@ -102,7 +107,7 @@ same-length-2 : tie.Need-same-length-2
 same-length-2 c = search needs
 
 returns-2 : tie.Need-returns-2
-returns-2 c = let k = c .before .before .before .before .before .before .before .before .before .before .before .before .before .before .before .before .before .before .before .before .before .before .before .before .before in let s = lent (k .before .before) in let p = given (k .before .before) in let row = poured-cut p (k .opened .result .n) (c .before .before .before .before .before .before .before .before .before .before .before .before .before .before .before .before .before .before .before .before .before .before .before .before .read-row4 .ensures) (long k) in taken-by (λ x. stepCall x (rowIn p)) _ (rowIn p ∷ []) s (taken (k .before .before)) (k .opened .ensures) (c .before .before .before .before .before .before .before .step-rows .ensures ∙ (λ i. filed (stepCall (cut (k .opened .result)) (row i)))) ∙ step-file-is s p
+returns-2 c = let k = c .before .before .before .before .before .before .before .before .before .before .before .before .before .before .before .before .before .before .before .before .before .before .before .before .before in let s = lent (k .before .before) in let p = given (k .before .before) in let row = poured-cut p (k .opened .result .n) (c .before .before .before .before .before .before .before .before .before .before .before .before .before .before .before .before .before .before .before .before .before .before .before .before .read-row4 .ensures) (long k) in (taken-by (λ x. stepCall x (rowIn p)) _ (rowIn p ∷ []) s (taken (k .before .before)) (k .opened .ensures) (c .before .before .before .before .before .before .before .step-rows .ensures ∙ (λ i. filed (stepCall (cut (k .opened .result)) (row i)))) ∙ step-file-is s p, bytes (k .before .before .before))
 
 pub step-spec : {M : Type 1} → statement M
 step-spec =

@@ -11,10 +11,10 @@ check-requires : tie.Need-check-requires
 check-requires c κs = search needs
 
 pack-requires : tie.Need-pack-requires
-pack-requires c κs = subst Small (sym (c .check .ensures)) (check-answer _)
+pack-requires c κs = subst Small (sym (c .check .ensures .0)) (check-answer _)
 
 returns : tie.Need-returns
-returns c = c .pack .ensures ∙ ap packed (c .before .check .ensures)
+returns c = let e = c .before .check .ensures in (c .pack .ensures ∙ ap packed (e .0), e .1)
 
 pub pathpetal-check-spec : {M : Type 1} → statement M
 pathpetal-check-spec = tie.close (tie.spec check-requires pack-requires returns)

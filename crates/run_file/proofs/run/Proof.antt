@@ -10,10 +10,10 @@ run-requires : tie.Need-run-requires
 run-requires c κs = search needs
 
 slice-reshare-prefix-write-all : tie.Need-slice-reshare-prefix-write-all
-slice-reshare-prefix-write-all c = wrote-fits _ _ _ (c .before .before .run .ensures)
+slice-reshare-prefix-write-all c = wrote-fits _ _ _ (c .before .before .run .ensures .0)
 
 slice-aggregate-write-all : tie.Need-slice-aggregate-write-all
-slice-aggregate-write-all c = sym (length-take-le _ _ (wrote-fits _ _ _ (c .before .before .before .run .ensures)))
+slice-aggregate-write-all c = sym (length-take-le _ _ (wrote-fits _ _ _ (c .before .before .before .run .ensures .0)))
 
 write-all-requires : tie.Need-write-all-requires
 write-all-requires c κs = search needs
