@@ -31,17 +31,27 @@ static struct answer of_second(struct second_answer a)
     return (struct answer){a.number, a.stage, a.count};
 }
 
-static struct answer second_does(enum kind kind, struct call *c)
+static struct second_channel channel_of(struct call *c)
 {
     struct second_row r[ROWS];
     for (int i = 0; i < ROWS; i++)
         r[i] = (struct second_row){c->row[i], c->len[i]};
-    struct second_channel channel = {c->N, c->X, c->T, c->accepted, c->wanted, r[ROW_h], r[ROW_e],
-                                     r[ROW_u], r[ROW_V], r[ROW_Q], r[ROW_F]};
+    return (struct second_channel){c->N, c->X, c->T, c->accepted, c->wanted, r[ROW_h], r[ROW_e],
+                                   r[ROW_u], r[ROW_V], r[ROW_Q], r[ROW_F]};
+}
+
+static struct second_read_row poured_of(const struct call *c)
+{
+    return (struct second_read_row){c->row[ROW_s], c->len[ROW_s]};
+}
+
+static struct answer second_does(enum kind kind, struct call *c)
+{
+    struct second_channel channel = channel_of(c);
     struct second_answer a = {0};
     switch (kind) {
     case MAKE: a = second_make(&channel); break;
-    case STEP: a = second_step(&channel, (struct second_read_row){r[ROW_s].at, r[ROW_s].len}); break;
+    case STEP: a = second_step(&channel, poured_of(c)); break;
     case FILTER: a = second_filter(&channel); break;
     default: a = second_run(&channel); break;
     }

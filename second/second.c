@@ -22,6 +22,13 @@ enum {
 #define F_MOST INT64_C(100000000000)
 #define s_MOST INT64_C(1000000)
 
+/* Each number that is rounded, with the name of the place that rounds it. A
+   source that takes this one in may look at the numbers by macros of its own. */
+#ifndef QUOTIENT_AT
+#define QUOTIENT_AT(place, n, d) (n)
+#define FLOAT_AT(place, v, k, j, u) (v)
+#endif
+
 /* Time weights, newest level first; the corrector's first is the trial's. */
 static const int64_t predictor[3] = {23, -16, 5};
 static const int64_t corrector[4] = {9, 19, -5, 1};
@@ -277,7 +284,7 @@ static void follow(struct work *k)
 
 static inline int64_t plain_part(const int64_t *P)
 {
-    return rounded_quotient(7 * (P[0] + P[1]) - P[-1] - P[2], 12);
+    return rounded_quotient(QUOTIENT_AT(PLAIN, 7 * (P[0] + P[1]) - P[-1] - P[2], 12), 12);
 }
 
 /* Q at face j; whether the dispersive part and the sum are in range. */
@@ -287,7 +294,8 @@ static inline bool flux(const struct work *k, size_t j, int64_t *Q)
     double dispersive = (M[0] + M[1]) / 2;
     if (!within(dispersive, Q_MOST))
         return false;
-    *Q = plain_part(k->P + GHOST + j) + (int64_t)rounded(dispersive);
+    *Q = plain_part(k->P + GHOST + j) +
+         (int64_t)rounded(FLOAT_AT(DISPERSIVE, dispersive, k, j, k->u + GHOST));
     return whole_within(*Q, Q_MOST);
 }
 
@@ -299,7 +307,7 @@ static inline int64_t D(const int64_t *f)
 static inline int64_t acceleration(const struct work *k, size_t j, struct divisor by_12x)
 {
     const int64_t *e = k->e + GHOST + j, *u = k->u + GHOST + j;
-    return -quick_quotient(9810000 * D(e) + u[0] * D(u), by_12x);
+    return -quick_quotient(QUOTIENT_AT(MINUS_F, 9810000 * D(e) + u[0] * D(u), by_12x.d), by_12x);
 }
 
 /* Q and F of the trial, from its e and u. */
@@ -353,7 +361,7 @@ static unsigned backward(struct work *k, struct sums *sums)
         u = k->side[j] - k->ratio[j] * u;
         if (!within(u, u_MOST))
             return 7;
-        double whole = rounded(u);
+        double whole = rounded(FLOAT_AT(SOLVED_u, u, k, j, NULL));
         add_to(&over, whole, k->float_u[GHOST + j]);
         put_u(k, j, whole);
     }
@@ -402,10 +410,12 @@ static unsigned predict(struct work *k, const struct second_channel *channel, co
     for (size_t j = 0; j < N; j++) {
         int64_t W = 0;
         if (j + 1 < N) {
-            W = quick_quotient(T * weighted(predictor, Q + j, N - 1), by_W);
+            int64_t n_W = T * weighted(predictor, Q + j, N - 1);
+            W = quick_quotient(QUOTIENT_AT(PREDICTED_W, n_W, by_W.d), by_W);
             k->start_Q[j] = weighted(corrector + 1, Q + j, N - 1);
         }
-        int64_t dV = quick_quotient(T * weighted(predictor, F + j, N), by_V);
+        int64_t n_V = T * weighted(predictor, F + j, N);
+        int64_t dV = quick_quotient(QUOTIENT_AT(PREDICTED_V, n_V, by_V.d), by_V);
         k->start_F[j] = weighted(corrector + 1, F + j, N);
         k->start_e[j] = channel->e.at[j] + s[j];
         put_e_V(k, j, k->start_e[j] + W_left - W, channel->V.at[j] + dV, &found);
@@ -426,8 +436,10 @@ static unsigned correct(struct work *k, const struct second_channel *channel, st
     struct sums over = {0, 0};
     int64_t W_left = 0;
     for (size_t j = 0; j < k->N; j++) {
-        int64_t W = quick_quotient(T * (corrector[0] * k->Q[j] + k->start_Q[j]), by_W);
-        int64_t dV = quick_quotient(T * (corrector[0] * k->F[j] + k->start_F[j]), by_V);
+        int64_t n_W = T * (corrector[0] * k->Q[j] + k->start_Q[j]);
+        int64_t W = quick_quotient(QUOTIENT_AT(CORRECTED_W, n_W, by_W.d), by_W);
+        int64_t n_V = T * (corrector[0] * k->F[j] + k->start_F[j]);
+        int64_t dV = quick_quotient(QUOTIENT_AT(CORRECTED_V, n_V, by_V.d), by_V);
         int64_t e = k->start_e[j] + W_left - W;
         add_to(&over, (double)e, (double)k->e[GHOST + j]);
         put_e_V(k, j, e, channel->V.at[j] + dV, &found);
@@ -540,7 +552,7 @@ static bool make_V(struct work *k, const int64_t *u)
         double V = reduced_velocity(k, u, j);
         if (!within(V, V_MOST))
             return false;
-        k->V[j] = (int64_t)rounded(V);
+        k->V[j] = (int64_t)rounded(FLOAT_AT(MADE_V, V, k, j, u));
     }
     return true;
 }
@@ -598,7 +610,7 @@ static int64_t G(const int64_t *e)
     int64_t sum = 0;
     for (ptrdiff_t i = 0; i < 8; i++)
         sum += face_filter[i] * e[i - 3];
-    return rounded_quotient(sum, 256);
+    return rounded_quotient(QUOTIENT_AT(FILTERED_G, sum, 256), 256);
 }
 
 static int64_t filtered_V(const int64_t *V)
@@ -606,7 +618,7 @@ static int64_t filtered_V(const int64_t *V)
     int64_t sum = cell_filter[0] * V[0];
     for (ptrdiff_t i = 1; i < 5; i++)
         sum += cell_filter[i] * (V[-i] + V[i]);
-    return rounded_quotient(sum, 256);
+    return rounded_quotient(QUOTIENT_AT(FILTERED_V, sum, 256), 256);
 }
 
 /* The forward sweep for the channel's e and V, filtered. */

@@ -1,0 +1,150 @@
+/* Scenes for what drawn ones hardly meet: a flux that leaves its range late in a step, and numbers that are exactly
+   halves before they are rounded. */
+#ifndef RARE_H
+#define RARE_H
+
+#include "scenes.h"
+#include "ties.h"
+
+/* Deep water over narrow cells, with a flux just in range and levels that move nothing: -5/7, -5/7 and 1 of its own Q
+   and F, newest first, are 0 in the prediction's sum, and in a correction's they are -9 beside 9 of the trial's. What
+   still moves is u's rounding. */
+static bool at_the_brink(struct call *c)
+{
+    static struct call trial;
+    int64_t low = 0, high = 20000000, shape[14], depth = between(5000, 20000), heights = magnitude(1000000);
+    int64_t noise = magnitude(2000);
+    lengths(c, (size_t)between(8, 14));
+    c->X = (uint64_t)between(50, 190), c->T = (uint64_t)between(56, 100), c->wanted = 5, c->accepted = 0;
+    for (size_t j = 0; j < c->N; j++) {
+        c->row[ROW_h][j] = depth;
+        c->row[ROW_e][j] = between(-heights, heights);
+        c->row[ROW_s][j] = 0;
+        shape[j] = between(-1000, 1000);
+    }
+    for (trial = *c; high - low > 1;) {
+        int64_t speed = (low + high) / 2;
+        for (size_t j = 0; j < c->N; j++)
+            trial.row[ROW_u][j] = speed * shape[j] / 1000;
+        if (second_does(MAKE, &trial).number)
+            high = speed;
+        else
+            low = speed;
+    }
+    for (size_t j = 0; j < c->N; j++)
+        c->row[ROW_u][j] = low * shape[j] / 1000;
+    if (second_does(MAKE, c).number)
+        return false;
+    for (int i = ROW_Q; i <= ROW_F; i++)
+        for (size_t j = 0; j < c->len[i] / 3 * 2; j++)
+            c->row[i][j] = c->row[i][j] / 7 * -5;
+    for (size_t j = 0; j < c->N; j++)
+        c->row[ROW_e][j] += between(-noise, noise);
+    return true;
+}
+
+/* Three levels of entry j: their sum is 12q in the prediction, and 15q + 9s in a correction, without the trial's. */
+static void put_levels(struct call *c, int row, size_t j, int64_t q, int64_t s)
+{
+    size_t n = c->len[row] / 3;
+    c->row[row][j] = q;
+    c->row[row][n + j] = q - 5 * s;
+    c->row[row][2 * n + j] = q - 16 * s;
+}
+
+/* A step of nearly still water in which every W and quotient of V is exactly a half in the prediction, and about half
+   of them are in the first correction. Levels that are all one unit move 1. */
+static bool moved_halves(struct call *c)
+{
+    int64_t depth = 1 + magnitude(19999), still = magnitude(19000000), noise = magnitude(30);
+    int64_t T = PICK(10, 20, 25, 50, 100), unit[ROWS], trial[ROWS][10];
+    lengths(c, (size_t)between(8, 10));
+    c->X = (uint64_t)(10 + magnitude(4990)), c->T = (uint64_t)T, c->wanted = 5, c->accepted = 0;
+    unit[ROW_Q] = 1000000 * (int64_t)c->X / T, unit[ROW_F] = 1000 / T;
+    for (size_t j = 0; j < c->N; j++) {
+        c->row[ROW_h][j] = depth;
+        c->row[ROW_e][j] = still + between(-noise, noise);
+        c->row[ROW_u][j] = c->row[ROW_s][j] = 0;
+        c->row[ROW_V][j] = between(-noise, noise);
+    }
+    for (int i = ROW_Q; i <= ROW_F; i++)
+        for (size_t j = 0; j < c->len[i] / 3; j++)
+            put_levels(c, i, j, unit[i] * between(-3, 2) + unit[i] / 2, 0);
+    struct second_channel channel = channel_of(c);
+    if (!predicted_levels(&channel, poured_of(c), trial[ROW_Q], trial[ROW_F]))
+        return false;
+    for (int i = ROW_Q; i <= ROW_F; i++)
+        for (size_t j = 0; j < c->len[i] / 3; j++)
+            if (one_in(2))
+                put_levels(c, i, j, c->row[i][j], c->row[i][j] + 8 * unit[i] * between(-1, 1) - trial[i][j]);
+    return true;
+}
+
+/* A filter pass in which about half of all G and V are exactly halves. */
+static void filtered_halves(struct call *c)
+{
+    int64_t heights = magnitude(20000), speeds = magnitude(100000);
+    scene(c);
+    any_levels(c);
+    c->accepted = 0;
+    for (size_t j = 0; j < c->N; j++) {
+        c->row[ROW_h][j] = 3 * heights / 10 + 10;
+        c->row[ROW_e][j] = 128 * between(-heights, heights);
+        c->row[ROW_V][j] = 128 * between(-speeds, speeds);
+    }
+}
+
+/* Making, with plain parts that are exactly halves (u in sixes), or accelerations (u in six hundreds). */
+static void flow_halves(struct call *c)
+{
+    int64_t m = PICK(6, 600);
+    lengths(c, (size_t)between(8, 14));
+    c->X = (uint64_t)PICK(10, 20, 30), c->T = 1, c->wanted = 1, c->accepted = 0;
+    for (size_t j = 0; j < c->N; j++) {
+        c->row[ROW_h][j] = 100;
+        c->row[ROW_e][j] = between(-30, 30);
+        c->row[ROW_u][j] = m * between(-300, 300);
+    }
+}
+
+/* Making, at 100 widths of depth: every inner V is a half in exact arithmetic, and w differs from scene to scene. */
+static void made_halves(struct call *c)
+{
+    int64_t *u = c->row[ROW_u], X = between(10, 200), most = 12000 / X;
+    lengths(c, 8);
+    c->X = (uint64_t)X, c->T = 1, c->wanted = 1, c->accepted = 0;
+    do {
+        u[0] = 100 * between(-most, most);
+        u[1] = 3 * u[0] + 100 * (2 * between(-most, most) + 1);
+        for (int j = 2; j < 8; j++)
+            u[j] = 2 * u[j - 1] - u[j - 2] - 100 * (2 * between(-most, most) + 1);
+    } while (llabs(3 * u[7] - u[6]) > 200 * most);
+    for (int j = 0; j < 8; j++)
+        c->row[ROW_h][j] = 100 * X, c->row[ROW_e][j] = 0;
+}
+
+static int64_t common_divisor(int64_t a, int64_t b)
+{
+    return b ? common_divisor(b, a % b) : a;
+}
+
+/* Making, over a bottom whose r is rounded as a rule; about half of the dispersive parts are halves in exact
+   arithmetic. A part is u's differences times an odd number of halves of 1/unit; u is in units. Not every h and X have
+   one. */
+static bool dispersive_halves(struct call *c)
+{
+    int64_t X = between(10, 200), h = between(10, 2000), g = common_divisor(6000 * X * X, h * h * h);
+    int64_t unit = 6000 * X * X / g;
+    if (unit > 100000 || h * h * h / g % 2 == 0)
+        return false;
+    lengths(c, (size_t)between(8, 14));
+    c->X = (uint64_t)X, c->T = 1, c->wanted = 1, c->accepted = 0;
+    for (size_t j = 0; j < c->N; j++) {
+        c->row[ROW_h][j] = h;
+        c->row[ROW_e][j] = 0;
+        c->row[ROW_u][j] = unit * between(-100, 100);
+    }
+    return true;
+}
+
+#endif
