@@ -8,6 +8,7 @@ use denote.Ref.{RefT}
 use Rattle.rule.specs.declared.Answer.{Answer}
 use Rattle.rule.specs.Rows.{Row}
 use Rattle.rule.specs.Channel.{Channel}
+use Rattle.little.specs.Numbers.{AreBytes}
 use Rattle.rule.specs.Calls.{Called, makeCall, readCall, stepCall, filterCall, runCall, runForCall}
 use Rattle.answers.specs.Stages.{leaves}
 use Rattle.water.specs.History as rule
@@ -209,7 +210,7 @@ make-start c z =
 abbrev counts : Channel → RefT ℕ × (RefT ℕ × (RefT ℕ × (RefT ℕ × (RefT ℕ × Rows (Unit {0})))))
 counts c = (ref (c .N), (ref (c .X), (ref (c .T), (ref (c .accepted), (ref (c .wanted), rows c tt)))))
 
-pub read-start : (c : Channel) (s : List ℕ) → readCall c s .answer .number ≡ 0 → Start (readCall c s .left)
-read-start c s z =
+pub read-start : (c : Channel) (s : List ℕ) → AreBytes s → readCall c s .answer .number ≡ 0 → Start (readCall c s .left)
+read-start c s b z =
     let k = readCall c s in
-    links.read (record { κs = forever 12; a = (ref s, counts c); r = k .answer; x = (ref s, counts (k .left)); permitted = refl }) z
+    links.read (record { κs = forever 12; a = (ref s, counts c); r = k .answer; x = (ref s, counts (k .left)); permitted = (refl, b) }) z

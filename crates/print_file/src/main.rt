@@ -1,7 +1,8 @@
 // The printing program: reads a channel file from standard input and writes its line to standard output. A program has no exit
 // status here, so what else there is to tell it says on standard error.
 ghost use mathlib.Core.Path.{_≡_};
-ghost use lib.ListN.{take};
+ghost use Prim.Native.Nat.{_≤_};
+ghost use lib.ListN.{length, take};
 ghost use Rattle.rule.specs.Calls.{printFile};
 
 // A line, and where it ends.
@@ -10,19 +11,26 @@ struct Line {
     end: usize,
 }
 
-// Writes the line of the bytes that were read, and answers what it handed to standard output.
-fn print(file: &[u8]) -> Line
-    ensures { λ r. ⌜ take (r .end) (r .text) ≡ printFile (now (file .entry)) ⌝ }
+// The line of the bytes that were read.
+fn lined(file: &[u8]) -> Line
+    ensures { λ r. ⌜ (take (r .end) (r .text) ≡ printFile (now (file .entry))) × (r .end ≤ length (r .text)) ⌝ }
 {
     let mut text = [0u8; 64];
     let end = line::line(file, &mut text);
+    Line { text, end }
+}
+
+// Writes that line.
+fn print(file: &[u8]) {
+    let line = lined(file);
+    let text = line.text;
+    let end = line.end;
     if !io::write_all(1, &text[..end]) {
         io::write_all(
             2,
             b"print_file: standard output failed: the line is not written, or not all of it. Clear nothing away.\n",
         );
     }
-    Line { text, end }
 }
 
 // The longest right file has 16,408 bytes. With one more a longer input is refused by its length, and not cut.

@@ -12,6 +12,7 @@ ghost use Rattle.rule.specs.Checks.{checked};
 ghost use Rattle.rule.specs.File.{offsets, offsetsIn, channelOf, readWith};
 ghost use Rattle.rule.specs.Bytes.{rowAt};
 ghost use Rattle.rule.specs.Calls.{rowIn, readCall};
+ghost use Rattle.little.specs.Numbers.{AreBytes};
 ghost use Rattle.checks.specs.Allowed.{pouredRows};
 ghost use Rattle.reader.specs.Reader.{fitsIn, headTests, formTests, bodyTests};
 ghost use Rattle.reader.specs.Held.{Begun, Formed, Room};
@@ -260,7 +261,8 @@ pub fn keep_levels(s: &[u8], n: usize, q: &mut [i64], f: &mut [i64])
     keep_row8(s, 24 + 40 * n, f);
 }
 
-// What the file s holds, in the lent values. A refused call leaves them all as they were.
+// What the file s holds, in the lent values. A refused call leaves them all as they were. The contract says last that what is
+// read are bytes, as the language knows of any `[u8]`.
 pub fn read(
     s: &[u8],
     n: &mut usize,
@@ -276,6 +278,7 @@ pub fn read(
     f: &mut [i64],
 ) -> rule::Answer
     ensures { λ r. ⌜ leaves r (channel (now (n .exit)) (now (x .exit)) (now (t .exit)) (now (accepted .exit)) (now (wanted .exit)) (now (h .exit)) (now (e .exit)) (now (u .exit)) (now (v .exit)) (now (q .exit)) (now (f .exit))) ≡ readCall (channel (now (n .entry)) (now (x .entry)) (now (t .entry)) (now (accepted .entry)) (now (wanted .entry)) (now (h .entry)) (now (e .entry)) (now (u .entry)) (now (v .entry)) (now (q .entry)) (now (f .entry))) (now (s .entry)) ⌝ }
+    ensures { λ _. ⌜ AreBytes (now (s .entry)) ⌝ }
 {
     let number = check_lent(s, h, e, u, v, q, f);
     if number != 0 {
