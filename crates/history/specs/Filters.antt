@@ -1,19 +1,13 @@
 -- Filtering: an outcome of a call of `filter::filter`, any that its contract permits.
-use contract.Lifetimes.{Lfts}
 use denote.Ref.{now}
-use denote.Triple.Clauses.{AtExit}
-use borrow.Fn.Kinds.{Dens, resT, endedOf}
 use Rattle.rule.specs.declared.Answer.{Answer}
 use Rattle.rule.specs.Channel.{Channel, channel}
 use Rattle.filter.proofs.filter.Kinds as kinds
 use Rattle.filter.proofs.filter.Reads.{Post}
+use Rattle.history.specs.Outcomes.{Outcome}
 
-pub record Filter : Type 0 where
-  pub κs : Lfts 6
-  pub a : Dens κs kinds.ps
-  pub r : resT kinds.r κs .Denot
-  pub x : AtExit (endedOf 6 kinds.ps kinds.r) κs
-  pub permitted : Post κs a r x
+abbrev pub Filter : Type 0
+Filter = Outcome 6 kinds.ps kinds.r Post
 
 -- n, x, t, accepted, wanted, h, e, u, v, q, f
 abbrev pub entry : Filter → Channel

@@ -1,19 +1,13 @@
 -- Making: an outcome of a call of `make::make`, any that its contract permits.
-use contract.Lifetimes.{Lfts}
 use denote.Ref.{now}
-use denote.Triple.Clauses.{AtExit}
-use borrow.Fn.Kinds.{Dens, resT, endedOf}
 use Rattle.rule.specs.declared.Answer.{Answer}
 use Rattle.rule.specs.Channel.{Channel, channel}
 use Rattle.make.proofs.make.Kinds as kinds
 use Rattle.make.proofs.make.Reads.{Post}
+use Rattle.history.specs.Outcomes.{Outcome}
 
-pub record Make : Type 0 where
-  pub κs : Lfts 7
-  pub a : Dens κs kinds.ps
-  pub r : resT kinds.r κs .Denot
-  pub x : AtExit (endedOf 7 kinds.ps kinds.r) κs
-  pub permitted : Post κs a r x
+abbrev pub Make : Type 0
+Make = Outcome 7 kinds.ps kinds.r Post
 
 -- n, x, t, accepted, wanted, h, e, u, v, q, f
 abbrev pub entry : Make → Channel

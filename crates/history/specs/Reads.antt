@@ -1,21 +1,15 @@
 -- Reading: an outcome of a call of `reader::read`, any that its contract permits.
 use Prim.Native.Nat.{ℕ}
 use mathlib.Core.List.{List}
-use contract.Lifetimes.{Lfts}
 use denote.Ref.{now}
-use denote.Triple.Clauses.{AtExit}
-use borrow.Fn.Kinds.{Dens, resT, endedOf}
 use Rattle.rule.specs.declared.Answer.{Answer}
 use Rattle.rule.specs.Channel.{Channel, channel}
 use Rattle.reader.proofs.read.Kinds as kinds
 use Rattle.reader.proofs.read.Reads.{Post}
+use Rattle.history.specs.Outcomes.{Outcome}
 
-pub record Read : Type 0 where
-  pub κs : Lfts 12
-  pub a : Dens κs kinds.ps
-  pub r : resT kinds.r κs .Denot
-  pub x : AtExit (endedOf 12 kinds.ps kinds.r) κs
-  pub permitted : Post κs a r x
+abbrev pub Read : Type 0
+Read = Outcome 12 kinds.ps kinds.r Post
 
 -- n, x, t, accepted, wanted, h, e, u, v, q, f, after the bytes s
 abbrev pub entry : Read → Channel

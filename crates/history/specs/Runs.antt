@@ -3,27 +3,20 @@ use Prim.Native.Nat.{ℕ}
 use contract.Lifetimes.{Lfts}
 use denote.Ref.{now}
 use denote.Triple.Clauses.{AtExit}
-use borrow.Fn.Kinds.{Dens, resT, endedOf}
+use borrow.Fn.Kinds.{Dens, endedOf}
 use Rattle.rule.specs.declared.Answer.{Answer}
 use Rattle.rule.specs.Channel.{Channel, channel}
 use Rattle.run.proofs.run.Kinds as run-kinds
 use Rattle.run.proofs.run.Reads as run-reads
 use Rattle.run.proofs.run_for.Kinds as run-for-kinds
 use Rattle.run.proofs.run_for.Reads as run-for-reads
+use Rattle.history.specs.Outcomes.{Outcome}
 
-pub record Run : Type 0 where
-  pub κs : Lfts 7
-  pub a : Dens κs run-kinds.ps
-  pub r : resT run-kinds.r κs .Denot
-  pub x : AtExit (endedOf 7 run-kinds.ps run-kinds.r) κs
-  pub permitted : run-reads.Post κs a r x
+abbrev pub Run : Type 0
+Run = Outcome 7 run-kinds.ps run-kinds.r run-reads.Post
 
-pub record RunFor : Type 0 where
-  pub κs : Lfts 7
-  pub a : Dens κs run-for-kinds.ps
-  pub r : resT run-for-kinds.r κs .Denot
-  pub x : AtExit (endedOf 7 run-for-kinds.ps run-for-kinds.r) κs
-  pub permitted : run-for-reads.Post κs a r x
+abbrev pub RunFor : Type 0
+RunFor = Outcome 7 run-for-kinds.ps run-for-kinds.r run-for-reads.Post
 
 -- n, x, t, accepted, wanted, h, e, u, v, q, f
 abbrev at-entry : (κs : Lfts 7) → Dens κs run-kinds.ps → Channel

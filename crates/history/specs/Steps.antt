@@ -1,22 +1,14 @@
--- Stepping: an outcome of a call of `step::step`, any that its contract permits. `Post` is the contract itself, as the check
--- reads it.
-use contract.Lifetimes.{Lfts}
+-- Stepping: an outcome of a call of `step::step`, any that its contract permits.
 use denote.Ref.{now}
-use denote.Triple.Clauses.{AtExit}
-use borrow.Fn.Kinds.{Dens, resT, endedOf}
 use Rattle.rule.specs.declared.Answer.{Answer}
 use Rattle.rule.specs.Rows.{Row}
 use Rattle.rule.specs.Channel.{Channel, channel}
 use Rattle.step.proofs.step.Kinds as kinds
 use Rattle.step.proofs.step.Reads.{Post}
+use Rattle.history.specs.Outcomes.{Outcome}
 
--- the arguments a, the answer r and the values at exit x
-pub record Step : Type 0 where
-  pub κs : Lfts 8
-  pub a : Dens κs kinds.ps
-  pub r : resT kinds.r κs .Denot
-  pub x : AtExit (endedOf 8 kinds.ps kinds.r) κs
-  pub permitted : Post κs a r x
+abbrev pub Step : Type 0
+Step = Outcome 8 kinds.ps kinds.r Post
 
 -- the lent values at entry, and at exit: n, x, t, accepted, wanted, h, e, u, v, q, f
 abbrev pub entry : Step → Channel
