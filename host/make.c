@@ -120,7 +120,7 @@ static int64_t size_of(int64_t number)
     return number < 0 ? -number : number;
 }
 
-/* The first cell that is too steep, by the paper's coefficients: the middle one must be greater than both others
+/* The first cell that is too steep, by the rule's coefficients: the middle one must be greater than both others
    together. The number of cells if there is none. */
 static size_t steep_cell(const struct survey *survey, int64_t width)
 {

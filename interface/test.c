@@ -493,7 +493,7 @@ static void steep_bottoms(const struct call *from)
     static struct call c;
     size_t n = word(from, CELLS);
     set_file(&c, from);
-    /* the paper's case, and rows that are equal to their neighbours' sum exactly: these are refused */
+    /* marked case 8, and rows that are equal to their neighbours' sum exactly: these are refused */
     for (size_t j = 0; j < n; j++)
         for (int64_t off = -1; off <= 1; off++) {
             steep(&c, n, j, 1000, 1000, 1941 + off, 1941 + off);
@@ -846,14 +846,14 @@ static void known(void)
     for (int32_t d = 1941; d <= 1942; d++) {
         even(&c, 9, d, 0, 10);
         put(c.string[DEPTHS].at + 16, 1000, 4);
-        expect(is(compare(MAKE, &c), d == 1941 ? 0 : PATHPETAL_DOMINANCE, 0, 0), "the paper's case 8");
+        expect(is(compare(MAKE, &c), d == 1941 ? 0 : PATHPETAL_DOMINANCE, 0, 0), "marked case 8");
     }
     even(&c, 16, 1000, 0, 10);
     put(c.string[HEIGHTS].at + 28, 256, 4);
-    expect(is(compare(MAKE, &c), 0, 0, 0) && is(compare(FILTER, &c), 0, 0, 0), "the paper's case 10 is filtered");
+    expect(is(compare(MAKE, &c), 0, 0, 0) && is(compare(FILTER, &c), 0, 0, 0), "marked case 10 is filtered");
     for (size_t j = 0; j < 16; j++)
         same = same && pathpetal_height_um(file, j) == filtered[j];
-    expect(same, "the paper's case 10");
+    expect(same, "marked case 10");
     expect(pathpetal_signed((const uint8_t *)"\xff\xff\xff\xff") == -1 &&
            pathpetal_signed((const uint8_t *)"\0\0\0\x80") == INT32_MIN, "signed numbers are read as such");
 }

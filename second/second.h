@@ -1,7 +1,7 @@
 #ifndef SECOND_H
 #define SECOND_H
 
-/* Waves along one closed channel, after the rule's document, in whole numbers.
+/* Waves along one closed channel, after the written rule (docs/RULE.md), in whole numbers.
    Lengths are in µm but for h and X (mm); T is in ms. */
 
 #include <stddef.h>
