@@ -298,6 +298,54 @@ pub step-wide : stepCall make-wide-after step-wide-poured ≡ answers 0 0 2 step
 unfolding opened
 step-wide = alike channels (stepCall make-wide-after step-wide-poured) (answers 0 0 2 step-wide-after) tt
 
+-- the channel of 'One step by hand' in docs/RULE.md
+abbrev make-by-hand-before : Channel
+make-by-hand-before =
+    channel 8 1000 50 0 10
+    (replicate 8 (pos 1000))
+    (pos 0 ∷ pos 0 ∷ pos 0 ∷ pos 12000 ∷ pos 0 ∷ pos 0 ∷ pos 0 ∷ pos 0 ∷ [])
+    (replicate 8 (pos 0))
+    (replicate 8 (pos 0))
+    (replicate 21 (pos 0))
+    (replicate 24 (pos 0))
+
+abbrev make-by-hand-after : Channel
+make-by-hand-after =
+    channel 8 1000 50 0 10
+    (replicate 8 (pos 1000))
+    (make-by-hand-before .e)
+    (replicate 8 (pos 0))
+    (replicate 8 (pos 0))
+    (replicate 21 (pos 0))
+    (thrice (pos 0 ∷ pos 9810 ∷ minus 78480 ∷ pos 0 ∷ pos 78480 ∷ minus 9810 ∷ pos 0 ∷ pos 0 ∷ []))
+
+pub make-by-hand : makeCall make-by-hand-before ≡ answers 0 0 0 make-by-hand-after
+unfolding opened
+make-by-hand = alike channels (makeCall make-by-hand-before) (answers 0 0 0 make-by-hand-after) tt
+
+-- its first step, whose stages are worked out there: three corrections
+abbrev step-by-hand-after : Channel
+step-by-hand-after =
+    channel 8 1000 50 1 10
+    (replicate 8 (pos 1000))
+    (minus 2 ∷ pos 30 ∷ pos 2 ∷ pos 11940 ∷ pos 2 ∷ pos 29 ∷ minus 1 ∷ pos 0 ∷ [])
+    (minus 43 ∷ minus 227 ∷ minus 2248 ∷ pos 0 ∷ pos 2249 ∷ pos 230 ∷ pos 55 ∷ pos 9 ∷ [])
+    (minus 4 ∷ pos 489 ∷ minus 3913 ∷ pos 0 ∷ pos 3913 ∷ minus 489 ∷ pos 4 ∷ minus 1 ∷ [])
+    (pos 81090326 ∷ minus 1509103648 ∷ minus 1600860729 ∷ pos 1601025713 ∷ pos 1510210153 ∷
+    minus 77834086 ∷ pos 14466215 ∷
+    pos 0 ∷ pos 0 ∷ pos 0 ∷ pos 0 ∷ pos 0 ∷ pos 0 ∷ pos 0 ∷
+    pos 0 ∷ pos 0 ∷ pos 0 ∷ pos 0 ∷ pos 0 ∷ pos 0 ∷ pos 0 ∷ [])
+    (minus 232 ∷ pos 9736 ∷ minus 77888 ∷ minus 1 ∷ pos 77896 ∷ minus 9741 ∷ pos 188 ∷ minus 31 ∷
+    pos 0 ∷ pos 9810 ∷ minus 78480 ∷ pos 0 ∷ pos 78480 ∷ minus 9810 ∷ pos 0 ∷ pos 0 ∷
+    pos 0 ∷ pos 9810 ∷ minus 78480 ∷ pos 0 ∷ pos 78480 ∷ minus 9810 ∷ pos 0 ∷ pos 0 ∷ [])
+
+pub step-by-hand : stepCall make-by-hand-after (replicate 8 (pos 0)) ≡ answers 0 0 3 step-by-hand-after
+unfolding opened
+step-by-hand =
+    alike channels
+    (stepCall make-by-hand-after (replicate 8 (pos 0)))
+    (answers 0 0 3 step-by-hand-after) tt
+
 -- an early cell falls dry and a later one is too high: the check of heights goes over all cells first
 abbrev filter-too-high-before : Channel
 filter-too-high-before =
