@@ -59,6 +59,7 @@ static struct answer second_does(enum kind kind, struct call *c)
     return of_second(a);
 }
 
+/* Where C leaves the order of two draws open, each is a statement of its own. */
 static uint64_t state = 0x9E3779B97F4A7C15u;
 static uint64_t draw(void)
 {
@@ -72,6 +73,13 @@ static bool one_in(uint64_t n) { return draw() % n == 0; }
 static int64_t between(int64_t low, int64_t high) { return low + (int64_t)(draw() % (uint64_t)(high - low + 1)); }
 static int64_t pick(const int64_t *from, size_t n) { return from[draw() % n]; }
 #define PICK(...) pick((const int64_t[]){__VA_ARGS__}, sizeof (const int64_t[]){__VA_ARGS__} / sizeof(int64_t))
+
+/* A bound, one less or one more, above or below zero. */
+static int64_t about(int64_t bound)
+{
+    int64_t sign = PICK(1, -1);
+    return sign * (bound + PICK(0, 0, 1, -1));
+}
 
 /* A size up to top, each order of magnitude as likely as another. */
 static int64_t magnitude(int64_t top)
@@ -114,7 +122,8 @@ static void scene(struct call *c)
     for (size_t j = 0; j < N; j++) {
         int64_t h = depth + between(-uneven, uneven), turn = (int64_t)j % period * 2 - period;
         h = h < 1 ? 1 : h > 20000 ? 20000 : h;
-        int64_t e = smooth ? heights / period * turn : edge ? PICK(1, -1) * (20000000 - between(0, heights)) : between(-heights, heights);
+        int64_t side = edge && !smooth ? PICK(1, -1) : 0;
+        int64_t e = smooth ? heights / period * turn : edge ? side * (20000000 - between(0, heights)) : between(-heights, heights);
         c->row[ROW_h][j] = h;
         c->row[ROW_e][j] = wetted(h, e);
         c->row[ROW_u][j] = smooth ? -(speeds / period * turn) : between(-speeds, speeds);
@@ -151,10 +160,10 @@ static void spoil(struct call *c)
     case 4: c->accepted = one_in(2) ? count : c->wanted + (uint64_t)PICK(0, 1, -1); break;
     case 5: c->len[i] = one_in(2) ? c->len[i] + (uint64_t)PICK(1, -1) : (size_t)between(0, ROOM - 1); break;
     default:
-        if (c->len[i])
-            c->row[i][draw() % c->len[i]] =
-                one_in(6) ? PICK(INT64_MIN, INT64_MAX, INT32_MIN, INT32_MAX, 0, 1, -1)
-                          : PICK(1, -1) * (bounds[i] + PICK(0, 0, 1, -1));
+        if (c->len[i]) {
+            int64_t value = one_in(6) ? PICK(INT64_MIN, INT64_MAX, INT32_MIN, INT32_MAX, 0, 1, -1) : about(bounds[i]);
+            c->row[i][draw() % c->len[i]] = value;
+        }
         break;
     }
 }

@@ -215,8 +215,7 @@ static void damage(void)
     default: {
         size_t row = (size_t)(draw() % 6), len = row == 4 ? 3 * (N - 1) : row == 5 ? 3 * N : N, bytes = row < 4 ? 4 : 8;
         size_t at = pathpetal_word(f->at + 24 + 4 * row) + bytes * (size_t)(draw() % len);
-        int64_t value = one_in(6) ? PICK(INT64_MIN, INT64_MAX, INT32_MIN, INT32_MAX, 0, 1, -1)
-                                  : PICK(1, -1) * (bounds[row] + PICK(0, 0, 1, -1));
+        int64_t value = one_in(6) ? PICK(INT64_MIN, INT64_MAX, INT32_MIN, INT32_MAX, 0, 1, -1) : about(bounds[row]);
         if (at + bytes <= f->len)
             put_value(f->at + at, value, bytes);
         break;
@@ -234,8 +233,10 @@ static void pour(const int64_t *s)
     p->len = 0;
     for (size_t j = 0; j < (N <= CELLS ? N : 8); j++, p->len += 4)
         put_value(p->at + p->len, s ? s[j] : 0, 4);
-    if (one_in(25) && p->len)
-        put_value(p->at + 4 * (size_t)(draw() % (p->len / 4)), PICK(1, -1) * (1000000 + PICK(0, 0, 1, -1, 1000000000)), 4);
+    if (one_in(25) && p->len) {
+        int64_t sign = PICK(1, -1), amount = 1000000 + PICK(0, 0, 1, -1, 1000000000);
+        put_value(p->at + 4 * (size_t)(draw() % (p->len / 4)), sign * amount, 4);
+    }
     if (one_in(40))
         p->len = one_in(2) ? p->len + (size_t)PICK(1, 4) : (size_t)between(0, 1100);
 }
@@ -312,8 +313,10 @@ static void faulty(struct call *c)
         c->X = (uint64_t)PICK(9, 5001);
     if (one_in(4))
         c->accepted = (uint64_t)PICK(9, 9, 9, 10);
-    if (one_in(4))
-        c->row[PICK(ROW_h, ROW_e, ROW_u, ROW_V, ROW_Q, ROW_F)][j] = PICK(1, -1) * PICK(20001, 20000001, 2000000001, 1000000000000001);
+    if (one_in(4)) {
+        int64_t sign = PICK(1, -1), size = PICK(20001, 20000001, 2000000001, 1000000000000001);
+        c->row[PICK(ROW_h, ROW_e, ROW_u, ROW_V, ROW_Q, ROW_F)][j] = sign * size;
+    }
     if (one_in(3))
         c->row[ROW_e][(j + 1) % N] = -999001;
     if (one_in(3))
@@ -347,8 +350,10 @@ static void with_faults(struct call *c)
             p->len += (size_t)PICK(4, -4, 1);
     }
     r.number[0] = kind == DO_RUN ? most() : 0;
-    if (one_in(5))
-        put_value(f->at + 24 + 4 * (size_t)between(0, 5), between(0, 1000), 4);
+    if (one_in(5)) {
+        int64_t offset = between(0, 1000);
+        put_value(f->at + 24 + 4 * (size_t)between(0, 5), offset, 4);
+    }
     if (one_in(5))
         f->len += (size_t)PICK(1, 64, -1, -64);
     if (one_in(12))
