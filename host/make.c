@@ -202,7 +202,7 @@ static enum status make_file(const struct csv *csv, const struct columns *column
         say_refusal(csv->path, survey, counts[0], number);
         say("nothing is written");
     } else {
-        status = whole_write(path, file, length, replace);
+        status = whole_write(path, file, length, &(struct over){.any = replace});
     }
     if (status == STATUS_DONE) {
         tell("%s: %zu cells of %s mm, %s steps of %s ms wanted\n", path, cells, GROUPED(counts[0]),

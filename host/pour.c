@@ -1,6 +1,8 @@
 #include "pour.h"
 #include "csv.h"
 
+#include <inttypes.h>
+#include <stdio.h>
 #include <stdlib.h>
 #include <string.h>
 
@@ -68,10 +70,30 @@ enum status pour_read(const char *path, const uint8_t *file, struct pour *pour)
                 GROUPED(pour->list[k].step), GROUPED(pour->list[k].cell), pour->list[k - 1].line);
             status = STATUS_REFUSED;
         }
-    while (pour->next < pour->count && pour->list[pour->next].step <= pathpetal_accepted(file))
-        pour->next++;
     csv_close(&csv);
     return status;
+}
+
+struct hex pour_sum(const struct pour *pour)
+{
+    struct sum sum;
+    if (pour->count == 0)
+        return (struct hex){"none"};
+    sum_begin(&sum);
+    for (size_t k = 0; k < pour->count; k++) {
+        char row[64];
+        int length = snprintf(row, sizeof row, "%" PRIu32 ",%" PRIu32 ",%" PRId32 "\n", pour->list[k].step,
+                              pour->list[k].cell, pour->list[k].amount);
+        sum_add(&sum, row, (size_t)length);
+    }
+    return sum_hex(&sum);
+}
+
+void pour_from(struct pour *pour, uint32_t accepted)
+{
+    pour->next = 0;
+    while (pour->next < pour->count && pour->list[pour->next].step <= accepted)
+        pour->next++;
 }
 
 uint32_t pour_step(const struct pour *pour)

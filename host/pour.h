@@ -5,6 +5,7 @@
 #define POUR_H
 
 #include "channel.h"
+#include "sum.h"
 
 struct poured {
     uint32_t step, cell;
@@ -18,8 +19,15 @@ struct pour {
     size_t next; /* the first that is not yet behind */
 };
 
-/* Reads a table for a channel; what belongs to steps that it has behind it is passed over. */
+/* Reads a table for a channel. */
 enum status pour_read(const char *path, const uint8_t *file, struct pour *pour);
+
+/* What the table pours, whatever its order, its remarks and its line ends: the sum of its rows by step and cell, each
+   as "step,cell,amount" with a line end. "none" if it has no rows. */
+struct hex pour_sum(const struct pour *pour);
+
+/* Passes over what belongs to steps that a channel has behind it. */
+void pour_from(struct pour *pour, uint32_t accepted);
 
 /* The next step into which water is poured; 0 if there is none. */
 uint32_t pour_step(const struct pour *pour);

@@ -1,6 +1,4 @@
 #include "record.h"
-#include "text.h"
-#include "whole.h"
 
 #include <errno.h>
 #include <fcntl.h>
@@ -8,10 +6,13 @@
 #include <stdio.h>
 #include <stdlib.h>
 #include <string.h>
-#include <sys/stat.h>
 #include <unistd.h>
 
-enum { FIELD_ROOM = 24 }; /* of a number and the comma before it */
+enum {
+    FIELD_ROOM = 24, /* of a number and the comma before it */
+    HEAD_ROOM = 512, /* of a head without the names of the columns */
+    TAIL_ROOM = 512  /* of a last line */
+};
 
 enum status record_cells(const char *list, const uint8_t *file, struct record *record)
 {
@@ -43,21 +44,15 @@ enum status record_cells(const char *list, const uint8_t *file, struct record *r
 
 bool record_due(const struct record *record, uint32_t accepted)
 {
-    return record->path && accepted % record->every == 0;
+    return record->path && accepted % record->head.every == 0;
 }
 
-/* The beginning of the row of a step: its number and its time, in s. */
-static size_t put_start(const struct record *record, uint32_t step, uint32_t step_ms)
-{
-    int length = snprintf(record->line, 2 * FIELD_ROOM, "%" PRIu32 ",%s,", step,
-                          THOUSANDTHS((int64_t)step * step_ms));
-    return (size_t)length;
-}
-
-/* The row of the channel's count. */
+/* The row of the channel's count: its number, its time in s, and the heights. */
 static size_t put_row(const struct record *record, const uint8_t *file)
 {
-    size_t at = put_start(record, pathpetal_accepted(file), pathpetal_step_ms(file));
+    uint32_t step = pathpetal_accepted(file);
+    size_t at = (size_t)snprintf(record->line, 2 * FIELD_ROOM, "%" PRIu32 ",%s,", step,
+                                 THOUSANDTHS((int64_t)step * pathpetal_step_ms(file)));
     for (size_t k = 0; k < record->count; k++)
         at += (size_t)snprintf(record->line + at, FIELD_ROOM, "%" PRId32 "%c",
                                pathpetal_height_um(file, record->cells[k]), k + 1 < record->count ? ',' : '\n');
@@ -66,93 +61,13 @@ static size_t put_row(const struct record *record, const uint8_t *file)
 
 enum status record_row(struct record *record, const uint8_t *file)
 {
-    if (record->first < 0)
-        record->first = pathpetal_accepted(file);
-    return write_all(record->file, record->line, put_row(record, file), record->open_path);
-}
-
-/* Whether a line without its end is numbers parted by commas, as many as there are marked cells. */
-static bool is_heights(const char *at, const char *end, size_t count)
-{
-    size_t fields = 1;
-    bool digit = false;
-    for (; at < end; at++) {
-        if (*at == ',') {
-            if (!digit)
-                return false;
-            fields++;
-            digit = false;
-        } else if (*at >= '0' && *at <= '9') {
-            digit = true;
-        } else if (*at != '-' || digit) {
-            return false;
-        }
+    size_t length = put_row(record, file);
+    enum status status = write_all(record->file, record->line, length, record->open_path);
+    if (status == STATUS_DONE) {
+        sum_add(&record->sum, record->line, length);
+        record->rows++;
     }
-    return digit && fields == count;
-}
-
-/* What stands in an earlier record, seen from a channel that goes on with it. */
-struct earlier {
-    size_t kept;        /* bytes: the names of the columns and the rows up to the channel's count */
-    int64_t first, last; /* the steps of the first and last row among them, -1 for none */
-    bool own;           /* the row of the channel's own count is among them */
-    unsigned long line; /* where it is not of this run, */
-    const char *wrong;  /* and why; NULL if it is */
-};
-
-static struct earlier look_back(struct record *record, const uint8_t *file, const char *names, const struct text *bytes)
-{
-    struct earlier earlier = {.first = -1, .last = -1, .line = 1};
-    uint32_t accepted = pathpetal_accepted(file), every = record->every;
-    size_t named = strlen(names);
-    const char *at, *end = bytes->at + bytes->length, *stop;
-    if (memcmp(bytes->at, names, bytes->length < named ? bytes->length : named) != 0) {
-        earlier.wrong = "its columns are not those of this run's staffs";
-        return earlier;
-    }
-    /* a first line that is cut in the middle is written again, as if nothing were there */
-    if (bytes->length < named)
-        return earlier;
-    earlier.kept = named;
-    for (at = bytes->at + named; (stop = memchr(at, '\n', (size_t)(end - at))) && *at != '#'; at = stop + 1) {
-        int64_t step = 0;
-        size_t start;
-        earlier.line++;
-        for (const char *digit = at; *digit >= '0' && *digit <= '9' && step <= STEPS_MOST; digit++)
-            step = step * 10 + (*digit - '0');
-        if (step > STEPS_MOST || step % every != 0 || (earlier.last >= 0 && step != earlier.last + every)) {
-            earlier.wrong = "its step is not the one that must follow";
-            return earlier;
-        }
-        start = put_start(record, (uint32_t)step, pathpetal_step_ms(file));
-        if ((size_t)(stop - at) < start || memcmp(at, record->line, start) != 0 ||
-            !is_heights(at + start, stop, record->count)) {
-            earlier.wrong = "is not a row of this run";
-            return earlier;
-        }
-        if (step > accepted)
-            break;
-        if (step == accepted) {
-            size_t ours = put_row(record, file);
-            earlier.own = (size_t)(stop + 1 - at) == ours && memcmp(at, record->line, ours) == 0;
-            if (!earlier.own) {
-                earlier.wrong = "its heights are not those of START";
-                return earlier;
-            }
-        }
-        if (earlier.first < 0)
-            earlier.first = step;
-        earlier.last = step;
-        earlier.kept = (size_t)(stop + 1 - bytes->at);
-    }
-    return earlier;
-}
-
-/* Whether rows lack that the channel has behind it. */
-static bool rows_lack(const struct record *record, const uint8_t *file, const struct earlier *earlier)
-{
-    uint32_t accepted = pathpetal_accepted(file);
-    return earlier->last < 0 ? accepted > 0 : !earlier->own && earlier->last + record->every < accepted;
+    return status;
 }
 
 static enum status cannot(const struct record *record, const char *what)
@@ -161,132 +76,225 @@ static enum status cannot(const struct record *record, const char *what)
     return STATUS_UNWRITTEN;
 }
 
-/* Opens NAME.open for this run alone. */
-static enum status open_record(struct record *record)
+static uint64_t length_of(int file)
 {
-    struct flock lock = {.l_type = F_WRLCK, .l_whence = SEEK_SET};
     struct stat found;
-    if (lstat(record->open_path, &found) == 0 && !S_ISREG(found.st_mode)) {
-        say("%s: is not a file; record under another name", record->open_path);
-        return STATUS_REFUSED;
+    return fstat(file, &found) == 0 && found.st_size > 0 ? (uint64_t)found.st_size : 0;
+}
+
+/* Reads up to `room` bytes at a place of an open file; gives how many there were. */
+static size_t read_at(int file, uint64_t at, char *bytes, size_t room)
+{
+    size_t length = 0;
+    while (length < room) {
+        ssize_t got = pread(file, bytes + length, room - length, (off_t)(at + length));
+        if (got < 0 && errno == EINTR)
+            continue;
+        if (got <= 0)
+            break;
+        length += (size_t)got;
     }
-    record->file = open(record->open_path, O_RDWR | O_CREAT | O_NOFOLLOW | O_CLOEXEC, 0666);
-    if (record->file < 0)
-        return cannot(record, "written");
-    if (fcntl(record->file, F_SETLK, &lock) != 0 && (errno == EACCES || errno == EAGAIN)) {
-        say("%s: another run is writing it", record->open_path);
-        return STATUS_REFUSED;
+    return length;
+}
+
+/* The head of this run's record. */
+static struct text own_head(const struct record *record)
+{
+    struct text text = {0};
+    put_names(&text, record->cells, record->count);
+    put_head(&text, &record->head);
+    return text;
+}
+
+/* Whether a file begins with this run's head; or, where `cut` allows it, is a part of that head from its beginning. */
+static bool begins_own(const struct record *record, int file, bool cut)
+{
+    struct text head = own_head(record);
+    char *bytes = room_for(head.length + 1, 1);
+    size_t length = read_at(file, 0, bytes, head.length);
+    bool own = memcmp(bytes, head.at, length) == 0 && (cut ? length_of(file) <= length : length == head.length);
+    free(bytes);
+    free(head.at);
+    return own;
+}
+
+/* Whether a file's last line says complete and has the sum of all before it. */
+static bool is_whole(int file)
+{
+    char bytes[TAIL_ROOM + 1] = "", *line;
+    uint64_t length = length_of(file);
+    size_t got = read_at(file, length > TAIL_ROOM ? length - TAIL_ROOM : 0, bytes, TAIL_ROOM);
+    struct tail tail;
+    struct sum sum;
+    struct hex hex;
+    if (got < 2 || bytes[got - 1] != '\n')
+        return false;
+    bytes[got - 1] = '\0';
+    line = strrchr(bytes, '\n');
+    if (!line || !take_tail(line + 1, &tail) || !tail.complete || !tail.summed ||
+        !sum_start(file, length - strlen(tail.sum.text) - 1, &sum))
+        return false;
+    hex = sum_hex(&sum);
+    return same_hex(&hex, &tail.sum);
+}
+
+enum status record_open(struct record *record, const struct run_id *run)
+{
+    struct stat found;
+    enum status status = open_alone(record->open_path, &record->file, &record->made);
+    if (status != STATUS_DONE)
+        return status;
+    record->head.run = *run;
+    record->line = room_for(record->count + 2, FIELD_ROOM);
+    record->named = open(record->path, O_RDONLY | O_NOFOLLOW | O_CLOEXEC);
+    if (record->named < 0)
+        return STATUS_DONE;
+    record->named_whole = is_whole(record->named);
+    if (record->made && fstat(record->named, &found) == 0)
+        keep_mode(record->file, &found);
+    return STATUS_DONE;
+}
+
+bool record_find(struct record *record, const struct saved *saved)
+{
+    const int files[] = {record->file, record->named};
+    /* the row of the channel's own count may lack: it could not be written */
+    if (!saved->recorded || saved->first + (uint64_t)saved->rows * record->head.every < saved->step)
+        return false;
+    record->head.first = saved->first;
+    for (size_t k = 0; k < 2; k++) {
+        struct hex hex;
+        if (files[k] < 0 || !begins_own(record, files[k], false) ||
+            !sum_start(files[k], saved->length, &record->sum))
+            continue;
+        /* rows of NAME are written to NAME.open, which must then hold nothing that is not this run's own */
+        if (k == 1 && !begins_own(record, record->file, true) && !begins_own(record, record->file, false))
+            continue;
+        hex = sum_hex(&record->sum);
+        if (same_hex(&hex, &saved->sum)) {
+            record->found = files[k];
+            record->rows = saved->rows;
+            return true;
+        }
+    }
+    return false;
+}
+
+/* What makes NAME.open none that this run can go on with. */
+static struct text what_differs(const struct record *record, const uint8_t *file)
+{
+    struct text how = {0}, names = {0};
+    struct head head;
+    char *bytes;
+    put_names(&names, record->cells, record->count);
+    bytes = room_for(names.length + HEAD_ROOM + 1, 1);
+    bytes[read_at(record->file, 0, bytes, names.length + HEAD_ROOM)] = '\0';
+    if (strncmp(bytes, names.at, names.length) != 0)
+        text_add(&how, "its columns are not those of this run's staffs");
+    else if (take_head(bytes + names.length, &head) == 0)
+        text_add(&how, "it does not say of which run it is");
+    else if (same_run(&head.run, &record->head.run, &how) && head.every != record->head.every)
+        text_add(&how, "--every %s there, %s here", GROUPED(head.every), GROUPED(record->head.every));
+    else if (how.length == 0)
+        text_add(&how, "its rows up to step %s are not those that START was saved with: some are lost or changed",
+                 GROUPED(pathpetal_accepted(file)));
+    free(bytes);
+    free(names.at);
+    return how;
+}
+
+enum status record_anew(struct record *record, const uint8_t *file, bool replace)
+{
+    uint32_t accepted = pathpetal_accepted(file), every = record->head.every;
+    struct text how = {0};
+    record->head.first = (accepted + every - 1) / every * every;
+    record->found = -1;
+    record->rows = 0;
+    if (begins_own(record, record->file, true)) {
+        if (accepted > 0)
+            say("%s: the record begins at step %s: no earlier rows are there", record->open_path, GROUPED(accepted));
+        return STATUS_DONE;
+    }
+    if (begins_own(record, record->file, false)) {
+        say("%s: is left from this same run, which begins again: its rows are written anew from step %s",
+            record->open_path, GROUPED(accepted));
+        return STATUS_DONE;
+    }
+    how = what_differs(record, file);
+    if (replace && accepted == record->head.run.origin_step) {
+        say("%s: is left from another run (%s), and is written over", record->open_path, how.at);
+        free(how.at);
+        return STATUS_DONE;
+    }
+    say("%s: %s", record->open_path, how.at);
+    say("it is left from another run: remove it, or record under another name");
+    free(how.at);
+    return STATUS_REFUSED;
+}
+
+enum status record_name_free(struct record *record, bool replace)
+{
+    record->over = (struct over){.any = replace};
+    if (record->named < 0 || replace)
+        return STATUS_DONE;
+    if (record->named_whole && begins_own(record, record->named, false)) {
+        struct sum sum;
+        record->over.own = sum_start(record->named, length_of(record->named), &sum);
+        record->over.sum = sum_hex(&sum);
+        return STATUS_DONE;
+    }
+    say("%s: is there already and is not written over; give another name for RECORD, or --replace", record->path);
+    return STATUS_REFUSED;
+}
+
+/* Copies the rows that are kept from NAME. */
+static enum status copy_named(const struct record *record)
+{
+    char some[65536];
+    for (uint64_t at = 0; at < record->sum.length;) {
+        uint64_t rest = record->sum.length - at;
+        size_t got = read_at(record->named, at, some, rest < sizeof some ? (size_t)rest : sizeof some);
+        enum status status;
+        if (got == 0)
+            return cannot(record, "copied");
+        status = write_all(record->file, some, got, record->open_path);
+        if (status != STATUS_DONE)
+            return status;
+        at += got;
     }
     return STATUS_DONE;
 }
 
-/* All that stands in a file that is open. */
-static enum status read_open(const struct record *record, int file, struct text *bytes)
+static enum status write_head(struct record *record)
 {
-    for (;;) {
-        char some[4096];
-        ssize_t got = read(file, some, sizeof some);
-        if (got < 0 && errno == EINTR)
-            continue;
-        if (got < 0)
-            return cannot(record, "read");
-        if (got == 0)
-            return STATUS_DONE;
-        text_add_bytes(bytes, some, (size_t)got);
-    }
-}
-
-/* Looks for the rows that NAME.open lacks in NAME, which is there only where it is to be replaced. Where they are
-   there, bytes become those of NAME. */
-static bool look_in_named(struct record *record, const uint8_t *file, const char *names, struct text *bytes,
-                          struct earlier *earlier)
-{
-    struct text named = {0};
-    bool there = false;
-    int from = open(record->path, O_RDONLY | O_CLOEXEC);
-    if (from < 0)
-        return false;
-    text_add_bytes(&named, "", 0);
-    if (read_open(record, from, &named) == STATUS_DONE) {
-        struct earlier found = look_back(record, file, names, &named);
-        there = !found.wrong && !rows_lack(record, file, &found);
-        if (there) {
-            struct text before = *bytes;
-            *earlier = found;
-            *bytes = named;
-            named = before;
-        }
-    }
-    close(from);
-    free(named.at);
-    return there;
-}
-
-/* Says why a record cannot be gone on with, or that it begins on the way. */
-static enum status may_go_on(const struct record *record, const uint8_t *file, const struct earlier *earlier)
-{
-    if (earlier->wrong) {
-        say("%s: line %lu: %s", record->open_path, earlier->line, earlier->wrong);
-        say("it is left from another run: remove it, or record under another name");
-        return STATUS_REFUSED;
-    }
-    if (!rows_lack(record, file, earlier))
-        return STATUS_DONE;
-    if (earlier->last < 0) {
-        say("%s: the record begins at step %s: no earlier rows are there", record->open_path,
-            GROUPED(pathpetal_accepted(file)));
-        return STATUS_DONE;
-    }
-    say("%s: ends at step %s, but START has %s steps behind it: rows are missing", record->open_path,
-        GROUPED(earlier->last), GROUPED(pathpetal_accepted(file)));
-    say("go on from an earlier file, or record under another name");
-    return STATUS_REFUSED;
-}
-
-/* Brings NAME.open to the rows that the channel has behind it. */
-static enum status go_on(struct record *record, const uint8_t *file, const char *names, struct text *bytes)
-{
-    struct earlier earlier = look_back(record, file, names, bytes);
-    size_t length = bytes->length, stays;
-    bool named = !earlier.wrong && rows_lack(record, file, &earlier) &&
-                 look_in_named(record, file, names, bytes, &earlier);
-    enum status status = may_go_on(record, file, &earlier);
-    if (status != STATUS_DONE)
-        return status;
-    /* what is kept of NAME.open stays where it stands; all else is written */
-    stays = named ? 0 : earlier.kept;
-    if (stays < length && ftruncate(record->file, (off_t)stays) != 0)
-        return cannot(record, "cut");
-    if (lseek(record->file, (off_t)stays, SEEK_SET) < 0)
-        return cannot(record, "written");
-    if (earlier.kept == 0)
-        status = write_all(record->file, names, strlen(names), record->open_path);
-    else
-        status = write_all(record->file, bytes->at + stays, earlier.kept - stays, record->open_path);
-    record->first = earlier.first;
-    if (status == STATUS_DONE && !earlier.own && record_due(record, pathpetal_accepted(file)))
-        status = record_row(record, file);
+    struct text head = own_head(record);
+    enum status status = write_all(record->file, head.at, head.length, record->open_path);
+    sum_begin(&record->sum);
+    sum_add(&record->sum, head.at, head.length);
+    free(head.at);
     return status;
 }
 
 enum status record_begin(struct record *record, const uint8_t *file)
 {
-    struct text names = {0}, bytes = {0};
-    enum status status = open_record(record);
-    record->line = room_for(record->count + 2, FIELD_ROOM);
-    text_add(&names, "step,time_s");
-    for (size_t k = 0; k < record->count; k++)
-        text_add(&names, ",cell_%zu_um", record->cells[k] + 1);
-    text_add(&names, "\n");
-    text_add_bytes(&bytes, "", 0);
+    uint32_t accepted = pathpetal_accepted(file);
+    bool stays = record->found == record->file;
+    uint64_t length = stays ? record->sum.length : 0; /* what is kept of NAME.open stays where it stands */
+    enum status status = STATUS_DONE;
+    record->begun = true;
+    if (length_of(record->file) > length && ftruncate(record->file, (off_t)length) != 0)
+        return cannot(record, "cut");
+    if (lseek(record->file, (off_t)length, SEEK_SET) < 0)
+        return cannot(record, "written");
+    if (!stays)
+        status = record->found < 0 ? write_head(record) : copy_named(record);
+    if (status == STATUS_DONE && record_due(record, accepted) &&
+        record->head.first + (uint64_t)record->rows * record->head.every == accepted)
+        status = record_row(record, file);
     if (status == STATUS_DONE)
-        status = read_open(record, record->file, &bytes);
-    if (status == STATUS_DONE)
-        status = go_on(record, file, names.at, &bytes);
+        status = record_flush(record);
     if (status == STATUS_DONE)
         status = flush_folder(record->open_path);
-    free(names.at);
-    free(bytes.at);
     return status;
 }
 
@@ -295,32 +303,77 @@ enum status record_flush(struct record *record)
     return flush_file(record->file, record->open_path);
 }
 
-enum status record_end(struct record *record, const uint8_t *file, bool replace)
+void record_saved(const struct record *record, struct saved *saved)
 {
+    saved->recorded = record->path && record->begun;
+    if (!saved->recorded)
+        return;
+    saved->sum = sum_hex(&record->sum);
+    saved->length = record->sum.length;
+    saved->rows = record->rows;
+    saved->first = record->head.first;
+}
+
+/* Whether NAME.open still has its name and the bytes that were written to it, and no others. */
+static bool is_intact(const struct record *record)
+{
+    struct sum sum;
+    struct hex there, ours = sum_hex(&record->sum);
+    if (!still_named(record->file, record->open_path) || length_of(record->file) != record->sum.length ||
+        !sum_start(record->file, record->sum.length, &sum))
+        return false;
+    there = sum_hex(&sum);
+    return same_hex(&there, &ours);
+}
+
+enum status record_end(struct record *record, const uint8_t *file)
+{
+    struct tail tail = {.complete = pathpetal_complete(file),
+                        .accepted = pathpetal_accepted(file),
+                        .wanted = pathpetal_wanted(file),
+                        .first = record->head.first,
+                        .summed = true,
+                        .rows = record->rows};
     struct text line = {0};
-    bool complete = pathpetal_complete(file);
+    struct sum before = record->sum;
     enum status status;
-    text_add(&line, "# %s: %" PRIu32 " of %" PRIu32 " steps accepted", complete ? "complete" : "open",
-             pathpetal_accepted(file), pathpetal_wanted(file));
-    if (record->first > 0)
-        text_add(&line, ", recorded from step %" PRId64, record->first);
-    text_add(&line, "\n");
+    put_tail(&line, &tail);
+    sum_add(&before, line.at, line.length);
+    text_add(&line, "%s\n", sum_hex(&before).text);
     status = write_all(record->file, line.at, line.length, record->open_path);
+    sum_add(&record->sum, line.at, line.length);
+    free(line.at);
     if (status == STATUS_DONE)
         status = record_flush(record);
+    record->spoilt = !is_intact(record);
+    if (status == STATUS_DONE && record->spoilt) {
+        say("%s: was cut, changed or taken away by another program while this ran", record->open_path);
+        status = STATUS_UNWRITTEN;
+    }
+    /* it is this run's alone until it has its name */
+    if (status == STATUS_DONE && tail.complete)
+        status = whole_name(record->open_path, record->path, &record->over);
     if (close(record->file) != 0 && status == STATUS_DONE)
         status = cannot(record, "closed");
     record->file = -1;
-    free(line.at);
-    if (status == STATUS_DONE && complete)
-        status = whole_name(record->open_path, record->path, replace);
     return status;
+}
+
+bool record_left(const struct record *record)
+{
+    struct stat found;
+    return record->path && !record->spoilt && lstat(record->open_path, &found) == 0 &&
+           (record->file < 0 || still_named(record->file, record->open_path));
 }
 
 void record_free(struct record *record)
 {
+    if (record->file >= 0 && record->made && !record->begun && still_named(record->file, record->open_path))
+        unlink(record->open_path);
     if (record->file >= 0)
         close(record->file);
+    if (record->named >= 0)
+        close(record->named);
     free(record->path);
     free(record->open_path);
     free(record->cells);

@@ -1,28 +1,51 @@
 /* record.h: the staff record: the heights at marked cells every so many accepted steps.
 
-   While a run goes, its rows are added to NAME.open; NAME appears when the run is complete, with a last line that
-   says so. A run that goes on finds the rows up to its own count in NAME.open (or, where that has become NAME and may
-   be replaced, in NAME) and writes the later ones again. */
+   While a run goes, its rows are added to NAME.open; NAME appears when the run is complete, with a last line that says
+   so. Its head says of which run it is (layout.h), and what stands beside a saved channel says how many of its bytes
+   that channel has behind it, and their sum (beside.h). So a run goes on only with rows that are its own: it finds them
+   in NAME.open or, where that has become NAME, in NAME, and writes the later ones again. */
 #ifndef RECORD_H
 #define RECORD_H
 
-#include "channel.h"
+#include "layout.h"
+#include "whole.h"
 
 struct record {
     char *path, *open_path;
     size_t *cells; /* from 0 */
     size_t count;  /* of marked cells */
-    uint32_t every;
-    int file;      /* -1 when there is no record */
-    int64_t first; /* the step of the first row, -1 when there is none */
-    char *line;    /* room for a row */
+    struct head head;
+    int file;          /* NAME.open, for this run alone; -1 when there is no record */
+    int named;         /* NAME as it stood when the run began, -1 when it was not there */
+    bool named_whole;  /* its last line says complete, and its sum is right */
+    bool made;         /* this run has made NAME.open, */
+    bool begun;        /* and has begun to write it */
+    bool spoilt;       /* another program has changed it since */
+    struct over over;  /* what of NAME may be written over */
+    int found;         /* where the rows are that are kept: one of the two files, -1 for no rows */
+    struct sum sum;    /* of the bytes that are kept or written */
+    uint32_t rows;     /* among them */
+    char *line;        /* room for a row */
 };
 
 /* The marked cells of a list like 12,40. */
 enum status record_cells(const char *list, const uint8_t *file, struct record *record);
 
-/* Whether what stands in NAME.open belongs to this run, and the record then: cut to the rows that this channel has
-   behind it, with that of its own count if one is due. */
+/* Opens NAME.open for this run alone, and looks at NAME; writes nothing. */
+enum status record_open(struct record *record, const struct run_id *run);
+
+/* Whether the rows that a saved channel has behind it are there, as it was saved with them; they are kept then. */
+bool record_find(struct record *record, const struct saved *saved);
+
+/* The same for a channel that begins the record, or goes on with one whose rows are lost: nothing is kept. Refused, with
+   what is different, where NAME.open is of another run, or holds rows of this one that are not known to be the
+   channel's. `replace` lets a run that begins write over it. */
+enum status record_anew(struct record *record, const uint8_t *file, bool replace);
+
+/* Whether NAME may be written over at the end: it is not there, is whole and of this run, or `replace` is given. */
+enum status record_name_free(struct record *record, bool replace);
+
+/* Brings NAME.open to the rows that are kept, and writes that of the channel's own count if one is due and lacking. */
 enum status record_begin(struct record *record, const uint8_t *file);
 
 /* Whether a row is due at the channel's count, and the row. */
@@ -32,10 +55,17 @@ enum status record_row(struct record *record, const uint8_t *file);
 /* All rows so far on disk. */
 enum status record_flush(struct record *record);
 
-/* The last line: of a complete channel the record gets its name, else it stays under NAME.open. */
-enum status record_end(struct record *record, const uint8_t *file, bool replace);
+/* How far the record has come, to be said beside a channel that is saved. */
+void record_saved(const struct record *record, struct saved *saved);
 
-/* Lets go of memory and file; the rows stay as they are. */
+/* The last line: of a complete channel the record gets its name, if all its bytes are still those that were written;
+   else it stays under NAME.open. */
+enum status record_end(struct record *record, const uint8_t *file);
+
+/* Whether NAME.open is there with the rows so far. */
+bool record_left(const struct record *record);
+
+/* Lets go of memory and files; the rows stay as they are. */
 void record_free(struct record *record);
 
 #endif

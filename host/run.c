@@ -2,13 +2,14 @@
 
    All of these are tied to the accepted count alone, and a saved channel always stands directly after a step. A
    filter pass belongs to the step that follows it: both happen, or neither is kept. So a run that goes on from a
-   saved file does what one run in one go would have done. */
+   saved file does what one run in one go would have done. What the same run has left when it was cut is known by what
+   stands beside it, and is gone on with. */
 #include "channel.h"
 #include "commands.h"
 #include "options.h"
 #include "pour.h"
 #include "record.h"
-#include "whole.h"
+#include "saves.h"
 
 #include <signal.h>
 #include <stdio.h>
@@ -23,9 +24,13 @@ static const char usage[] = "pathpetal run START -o END [--filter-every N] [--po
 enum { BLOCK = 100 }; /* the most steps between two looks at signals and the clock */
 
 struct run {
-    const char *start, *end, *checkpoint;
-    uint32_t filter_every, checkpoint_every; /* 0 for never */
-    bool replace, replace_checkpoint;
+    const char *start;
+    struct save end, checkpoint;
+    uint32_t checkpoint_every; /* 0 for never */
+    bool replace;
+    struct run_id id;
+    struct saved start_saved; /* what is known of START, if anything */
+    const struct save *from;  /* what the run goes on from in the place of START, NULL for START itself */
     struct pour pour;
     struct record record;
     struct channel channel;
@@ -110,9 +115,9 @@ static uint64_t free_steps(const struct run *run)
 {
     uint32_t accepted = pathpetal_accepted(run->channel.bytes), pours = pour_step(&run->pour);
     uint64_t until = (uint64_t)accepted + BLOCK;
-    until = least(until, next_multiple(accepted, run->filter_every));
+    until = least(until, next_multiple(accepted, run->id.filter_every));
     until = least(until, next_multiple(accepted, run->checkpoint_every));
-    until = least(until, next_multiple(accepted, run->record.path ? run->record.every : 0));
+    until = least(until, next_multiple(accepted, run->record.path ? run->record.head.every : 0));
     if (pours)
         until = least(until, pours - 1);
     return until - accepted;
@@ -124,7 +129,7 @@ static void advance(struct run *run, struct ending *ending)
     struct channel *channel = &run->channel;
     uint32_t before = pathpetal_accepted(channel->bytes);
     uint64_t answer, steps = free_steps(run);
-    bool filtered = run->filter_every && before > 0 && before % run->filter_every == 0;
+    bool filtered = run->id.filter_every && before > 0 && before % run->id.filter_every == 0;
     if (filtered) {
         memcpy(run->unfiltered.bytes, channel->bytes, channel->length);
         answer = pathpetal_filter(channel->bytes, channel->length);
@@ -149,6 +154,15 @@ static void advance(struct run *run, struct ending *ending)
     ending->status = STATUS_OPEN; /* a call that takes no step ends the run, whatever it answers */
 }
 
+/* The channel at hand, as it is to be saved. */
+static struct saved saved_now(const struct run *run)
+{
+    struct saved saved = {.channel = sum_of(run->channel.bytes, run->channel.length),
+                          .step = pathpetal_accepted(run->channel.bytes)};
+    record_saved(&run->record, &saved);
+    return saved;
+}
+
 /* What is due at the count just reached: the row of the record, then the checkpoint, which never runs ahead of it.
    A complete channel goes to END alone. */
 static enum status keep(struct run *run)
@@ -157,14 +171,15 @@ static enum status keep(struct run *run)
     enum status status = STATUS_DONE;
     if (record_due(&run->record, accepted))
         status = record_row(&run->record, run->channel.bytes);
-    if (status != STATUS_DONE || !run->checkpoint || accepted % run->checkpoint_every != 0 ||
+    if (status != STATUS_DONE || !run->checkpoint.path || accepted % run->checkpoint_every != 0 ||
         pathpetal_complete(run->channel.bytes))
         return status;
     if (run->record.path)
         status = record_flush(&run->record);
-    if (status == STATUS_DONE)
-        status = whole_write(run->checkpoint, run->channel.bytes, run->channel.length, run->replace_checkpoint);
-    run->replace_checkpoint = true;
+    if (status == STATUS_DONE) {
+        struct saved now = saved_now(run);
+        status = save_write(&run->checkpoint, &run->id, &run->channel, &now, false);
+    }
     return status;
 }
 
@@ -205,29 +220,53 @@ static void say_ending(const struct run *run, const struct ending *ending)
     say("to mend: %s", refusal_mend(ending->number));
 }
 
+/* Writes END, unless it stands there already; *holds is whether it then holds the channel at hand. */
+static enum status save_end(struct run *run, bool *holds)
+{
+    struct saved now = saved_now(run);
+    enum status flushed = run->record.path ? record_flush(&run->record) : STATUS_DONE, status;
+    if (flushed != STATUS_DONE)
+        now.recorded = false;
+    if (!run->end.own || !same_hex(&run->end.stands.channel, &now.channel))
+        status = save_write(&run->end, &run->id, &run->channel, &now, true);
+    else if (now.recorded && !same_hex(&run->end.stands.sum, &now.sum))
+        status = beside_write(&run->end.beside, &run->id, NULL, &now);
+    else
+        status = STATUS_DONE;
+    *holds = same_hex(&run->end.stands.channel, &now.channel);
+    return status == STATUS_DONE ? flushed : status;
+}
+
+/* What can be done with what is left of a run that is not complete. */
+static void say_left(const struct run *run, enum status why)
+{
+    if (record_left(&run->record))
+        say("%s: holds the record so far", run->record.open_path);
+    if (!pathpetal_complete(run->channel.bytes) && why != STATUS_OPEN)
+        say("to go on: give the same command again");
+}
+
 /* Writes END, then ends the record, so that no record says complete without END. */
 static enum status end_run(struct run *run, struct ending ending)
 {
     const uint8_t *file = run->channel.bytes;
+    bool holds = false;
     enum status status;
     say_progress("");
     say_ending(run, &ending);
-    status = whole_write(run->end, file, run->channel.length, run->replace);
-    if (status != STATUS_DONE) {
+    status = save_end(run, &holds);
+    if (!holds) {
         say("END is not written; START is as it was");
         return status;
     }
-    if (run->record.path && ending.status != STATUS_UNWRITTEN)
-        status = record_end(&run->record, file, run->replace);
+    if (run->record.path && status == STATUS_DONE && ending.status != STATUS_UNWRITTEN)
+        status = record_end(&run->record, file);
     if (ending.status == STATUS_DONE && status == STATUS_DONE) {
-        tell("%s: %s\n", run->end, standing(file).text);
+        tell("%s: %s\n", run->end.path, standing(file).text);
         return told();
     }
-    say("%s: %s", run->end, standing(file).text);
-    if (run->record.path)
-        say("%s: holds the record so far", run->record.open_path);
-    if (!pathpetal_complete(file) && ending.status != STATUS_OPEN)
-        say("to go on: pathpetal run %s with the same options and another END", run->end);
+    say("%s: %s", run->end.path, standing(file).text);
+    say_left(run, ending.status);
     return ending.status == STATUS_DONE ? status : ending.status;
 }
 
@@ -252,29 +291,117 @@ static enum status take_options(struct run *run, const struct option *options)
 {
     const char *record = option_value(options, "--record");
     enum status status = STATUS_DONE;
-    run->end = option_value(options, "-o");
-    run->checkpoint = option_value(options, "--checkpoint");
-    run->replace = run->replace_checkpoint = option_value(options, "--replace") != NULL;
-    if (!run->end)
+    run->end.path = option_value(options, "-o");
+    run->checkpoint.path = option_value(options, "--checkpoint");
+    run->replace = option_value(options, "--replace") != NULL;
+    if (!run->end.path)
         return usage_wrong("-o END is missing");
-    if (!run->checkpoint != !option_value(options, "--checkpoint-every"))
+    if (!run->checkpoint.path != !option_value(options, "--checkpoint-every"))
         return usage_wrong("--checkpoint and --checkpoint-every go together");
     if (!record != !option_value(options, "--staff"))
         return usage_wrong("--staff and --record go together");
     if (!record && option_value(options, "--every"))
         return usage_wrong("--every goes with --staff and --record");
     if (option_value(options, "--filter-every"))
-        status = take_every(options, "--filter-every", &run->filter_every);
-    if (status == STATUS_DONE && run->checkpoint)
+        status = take_every(options, "--filter-every", &run->id.filter_every);
+    if (status == STATUS_DONE && run->checkpoint.path)
         status = take_every(options, "--checkpoint-every", &run->checkpoint_every);
-    run->record.every = 1;
+    run->record.head.every = 1;
     if (status == STATUS_DONE && option_value(options, "--every"))
-        status = take_every(options, "--every", &run->record.every);
+        status = take_every(options, "--every", &run->record.head.every);
     if (status == STATUS_DONE && record) {
         run->record.path = joined(record, "");
         run->record.open_path = joined(record, ".open");
     }
     return status;
+}
+
+/* Whether all places are apart, and every output can be written. What stands there already is judged later. */
+static enum status look_at_places(const struct run *run, const char *pour)
+{
+    char *beside[3] = {joined(run->start, ".run"), joined(run->end.path, ".run"), NULL};
+    enum status status;
+    if (run->checkpoint.path)
+        beside[2] = joined(run->checkpoint.path, ".run");
+    {
+        struct place places[] = {input_place("START", run->start), input_place("POUR", pour),
+                                 work_place("END", run->end.path),
+                                 work_place("the checkpoint", run->checkpoint.path),
+                                 work_place("RECORD", run->record.path),
+                                 work_place("RECORD.open", run->record.open_path),
+                                 input_place("START.run", beside[0]), work_place("END.run", beside[1]),
+                                 work_place("the checkpoint's .run", beside[2])};
+        status = outputs_allowed(places, sizeof places / sizeof places[0], run->replace);
+    }
+    for (size_t k = 0; k < 3; k++)
+        free(beside[k]);
+    return status;
+}
+
+/* Which run this is: by what stands beside START, where that is one that a run has saved. */
+static enum status know_start(struct run *run)
+{
+    uint32_t accepted = pathpetal_accepted(run->channel.bytes);
+    struct beside beside;
+    struct text how = {0};
+    const struct saved *found;
+    enum status status = beside_read(run->start, &beside);
+    run->id.origin = sum_of(run->channel.bytes, run->channel.length);
+    run->id.origin_step = accepted;
+    found = status == STATUS_DONE ? beside_find(&beside, &run->id.origin) : NULL;
+    if (found && found->step > beside.run.origin_step) {
+        if (!same_options(&beside.run, &run->id, &how)) {
+            say("%s: its last steps were taken with other options: %s", run->start, how.at);
+            say("give the same options; or, to begin a run of its own from it, copy it under another name");
+            status = STATUS_REFUSED;
+        }
+        run->id = beside.run;
+        run->start_saved = *found;
+    } else if (status == STATUS_DONE && accepted > 0 && !found) {
+        say("%s: nothing beside it says under which options its %s steps were taken", run->start, GROUPED(accepted));
+    }
+    free(how.at);
+    beside_free(&beside);
+    return status;
+}
+
+/* Whether a channel that the same run has left is gone on with: it is further than START, and the record has the rows
+   that belong to it. */
+static bool goes_on_from(struct run *run, const struct save *left)
+{
+    if (run->from || !left->own || left->stands.step < pathpetal_accepted(run->channel.bytes))
+        return false;
+    if (!run->record.path || record_find(&run->record, &left->stands))
+        return true;
+    say("%s: is of this run, but %s has not the rows that belong to it: it is not gone on with", left->path,
+        run->record.open_path);
+    return false;
+}
+
+/* Where the run begins: at the furthest channel that the same run, cut before, has left; else at START. */
+static enum status choose(struct run *run)
+{
+    bool further = run->checkpoint.own && run->checkpoint.stands.step > run->end.stands.step;
+    const struct save *left[] = {further ? &run->checkpoint : &run->end, further ? &run->end : &run->checkpoint};
+    enum status status = STATUS_DONE;
+    for (size_t k = 0; k < 2; k++)
+        if (goes_on_from(run, left[k]))
+            run->from = left[k];
+    if (run->from)
+        run->channel = run->from->channel;
+    else if (run->record.path && !record_find(&run->record, &run->start_saved))
+        status = record_anew(&run->record, run->channel.bytes, run->replace);
+    if (status == STATUS_DONE && run->record.path)
+        status = record_name_free(&run->record, run->replace);
+    pour_from(&run->pour, pathpetal_accepted(run->channel.bytes));
+    return status;
+}
+
+/* Whether all that is asked for is there already: the same run has written it. */
+static bool is_done(const struct run *run)
+{
+    return run->from == &run->end && pathpetal_complete(run->channel.bytes) &&
+           (!run->record.path || (run->record.found == run->record.named && run->record.named_whole));
 }
 
 /* Reads all inputs and looks at all outputs; nothing is written before all of it is in order. */
@@ -286,18 +413,40 @@ static enum status prepare(struct run *run, const struct option *options)
         run->poured = room_for(pathpetal_cells(run->channel.bytes), 4);
     if (status == STATUS_DONE && pour)
         status = pour_read(pour, run->channel.bytes, &run->pour);
+    run->id.pour = pour_sum(&run->pour);
     if (status == STATUS_DONE && run->record.path)
         status = record_cells(option_value(options, "--staff"), run->channel.bytes, &run->record);
-    if (status == STATUS_DONE) {
-        struct place places[] = {input_place("START", run->start), input_place("POUR", pour),
-                                 output_place("END", run->end), output_place("the checkpoint", run->checkpoint),
-                                 output_place("RECORD", run->record.path),
-                                 work_place("RECORD.open", run->record.open_path)};
-        status = outputs_allowed(places, sizeof places / sizeof places[0], run->replace);
-    }
+    if (status == STATUS_DONE)
+        status = look_at_places(run, pour);
+    if (status == STATUS_DONE)
+        status = know_start(run);
+    /* all is read that may be waited for: from here on a signal ends the run in good order */
+    if (status == STATUS_DONE)
+        listen();
+    if (status == STATUS_DONE)
+        status = save_hold(&run->end, &run->id, run->replace);
+    if (status == STATUS_DONE && run->checkpoint.path)
+        status = save_hold(&run->checkpoint, &run->id, run->replace);
     if (status == STATUS_DONE && run->record.path)
-        status = record_begin(&run->record, run->channel.bytes);
-    return status;
+        status = record_open(&run->record, &run->id);
+    return status == STATUS_DONE ? choose(run) : status;
+}
+
+/* The run itself, after all is in order. */
+static enum status go(struct run *run)
+{
+    const uint8_t *file = run->channel.bytes;
+    enum status status = STATUS_DONE;
+    if (is_done(run)) {
+        tell("%s: %s (it was there already)\n", run->end.path, standing(file).text);
+        return told();
+    }
+    if (run->from)
+        say("%s: is of this run, cut before: goes on after step %s", run->from->path,
+            GROUPED(pathpetal_accepted(file)));
+    if (run->record.path)
+        status = record_begin(&run->record, file);
+    return status == STATUS_DONE ? end_run(run, take_steps(run)) : status;
 }
 
 enum status run_command(int count, char **words)
@@ -314,17 +463,20 @@ enum status run_command(int count, char **words)
                                {.name = NULL}};
     struct run *run = room_for(1, sizeof *run);
     enum status status;
-    run->record.file = -1;
-    run->record.first = -1;
-    listen();
+    run->end.use = "END";
+    run->checkpoint.use = "the checkpoint";
+    run->end.beside.file = run->checkpoint.beside.file = -1;
+    run->record.file = run->record.named = run->record.found = -1;
     status = options_read(count, words, options, &run->start, 1, usage);
     if (status == STATUS_DONE)
         status = take_options(run, options);
     if (status == STATUS_DONE)
         status = prepare(run, options);
     if (status == STATUS_DONE)
-        status = end_run(run, take_steps(run));
+        status = go(run);
     record_free(&run->record);
+    save_free(&run->end);
+    save_free(&run->checkpoint);
     free(run->pour.list);
     free(run->poured);
     free(run);

@@ -65,7 +65,7 @@ static enum status write_picture(const char *use, const char *from, const char *
 {
     struct place places[] = {input_place(use, from), output_place("PICTURE", to)};
     enum status status = outputs_allowed(places, 2, replace);
-    return status == STATUS_DONE ? whole_write(to, svg->at, svg->length, replace) : status;
+    return status == STATUS_DONE ? whole_write(to, svg->at, svg->length, &(struct over){.any = replace}) : status;
 }
 
 static enum status show_channel(const char *path, const char *picture, bool replace)

@@ -5,7 +5,6 @@
 #include <stdio.h>
 #include <stdlib.h>
 #include <string.h>
-#include <sys/stat.h>
 #include <unistd.h>
 
 enum status write_all(int to, const void *bytes, size_t length, const char *name)
@@ -79,10 +78,49 @@ static enum status has_come(const char *path)
     return STATUS_UNWRITTEN;
 }
 
-enum status whole_name(const char *from, const char *path, bool replace)
+bool sum_start(int file, uint64_t length, struct sum *sum)
+{
+    char some[65536];
+    sum_begin(sum);
+    while (sum->length < length) {
+        uint64_t rest = length - sum->length;
+        ssize_t got = pread(file, some, rest < sizeof some ? (size_t)rest : sizeof some, (off_t)sum->length);
+        if (got < 0 && errno == EINTR)
+            continue;
+        if (got <= 0)
+            return false;
+        sum_add(sum, some, (size_t)got);
+    }
+    return true;
+}
+
+/* Whether the file that stands at path has these bytes. */
+static bool stands_with(const char *path, const struct hex *wanted)
+{
+    struct stat found;
+    struct sum sum;
+    bool same = false;
+    int file = open(path, O_RDONLY | O_NOFOLLOW | O_CLOEXEC);
+    if (file < 0)
+        return false;
+    if (fstat(file, &found) == 0 && S_ISREG(found.st_mode) && sum_start(file, (uint64_t)found.st_size, &sum)) {
+        struct hex sum_there = sum_hex(&sum);
+        same = same_hex(&sum_there, wanted);
+    }
+    close(file);
+    return same;
+}
+
+/* Whether a file that stands at path may be written over. */
+static bool may_go(const char *path, const struct over *over)
+{
+    return over->any || (over->own && stands_with(path, &over->sum));
+}
+
+enum status whole_name(const char *from, const char *path, const struct over *over)
 {
     struct stat there;
-    if (!replace && lstat(path, &there) == 0)
+    if (lstat(path, &there) == 0 && !may_go(path, over))
         return has_come(path);
     if (rename(from, path) != 0) {
         say("%s: cannot be given its name: %s", path, strerror(errno));
@@ -93,12 +131,12 @@ enum status whole_name(const char *from, const char *path, bool replace)
 
 /* Gives a part its name. A link, unlike a rename, is never made where a file stands: so none that comes to be in the
    last moment is lost. A process killed between leaves the part as a second name of the whole file. */
-static enum status name_part(const char *part, const char *path, bool replace)
+static enum status name_part(const char *part, const char *path, const struct over *over)
 {
-    if (replace)
-        return whole_name(part, path, true);
+    if (may_go(path, over))
+        return whole_name(part, path, over);
     if (link(part, path) != 0)
-        return errno == EEXIST ? has_come(path) : whole_name(part, path, false); /* where links cannot be made */
+        return errno == EEXIST ? has_come(path) : whole_name(part, path, over); /* where links cannot be made */
     if (unlink(part) != 0) {
         say("%s: stands, but %s cannot be removed: %s", path, part, strerror(errno));
         return STATUS_UNWRITTEN;
@@ -106,17 +144,28 @@ static enum status name_part(const char *part, const char *path, bool replace)
     return flush_folder(path);
 }
 
-/* A fresh file beside path; *name becomes its name. -1 and errno if there can be none. */
-static int open_part(const char *path, char **name)
+void keep_mode(int file, const struct stat *of)
+{
+    mode_t mode = of->st_mode & 0777;
+    if (fchown(file, (uid_t)-1, of->st_gid) != 0)
+        mode &= ~(mode_t)070; /* what its group may do is not for another group */
+    if (fchmod(file, mode) != 0)
+        return; /* it stays with the owner alone */
+}
+
+int open_part(const char *path, char **name, const struct stat *of)
 {
     for (int try = 0; try < 1000; try++) {
         char ending[64];
         int file, why;
         snprintf(ending, sizeof ending, ".part-%ld-%d", (long)getpid(), try);
         *name = joined(path, ending);
-        file = open(*name, O_WRONLY | O_CREAT | O_EXCL | O_CLOEXEC, 0666);
-        if (file >= 0)
+        file = open(*name, O_RDWR | O_CREAT | O_EXCL | O_CLOEXEC, of ? 0600 : 0666);
+        if (file >= 0) {
+            if (of)
+                keep_mode(file, of);
             return file;
+        }
         why = errno;
         free(*name);
         *name = NULL;
@@ -127,11 +176,13 @@ static int open_part(const char *path, char **name)
     return -1;
 }
 
-enum status whole_write(const char *path, const void *bytes, size_t length, bool replace)
+enum status whole_write(const char *path, const void *bytes, size_t length, const struct over *over)
 {
     char *part = NULL;
+    struct stat before;
+    bool there = lstat(path, &before) == 0 && S_ISREG(before.st_mode);
     enum status status;
-    int file = open_part(path, &part);
+    int file = open_part(path, &part, there ? &before : NULL);
     if (file < 0) {
         say("%s: cannot be written: %s", path, strerror(errno));
         return STATUS_UNWRITTEN;
@@ -144,11 +195,53 @@ enum status whole_write(const char *path, const void *bytes, size_t length, bool
         status = STATUS_UNWRITTEN;
     }
     if (status == STATUS_DONE)
-        status = name_part(part, path, replace);
+        status = name_part(part, path, over);
     if (status != STATUS_DONE)
         unlink(part); /* gone already if it got its name */
     free(part);
     return status;
+}
+
+bool still_named(int file, const char *path)
+{
+    struct stat open_one, named;
+    return fstat(file, &open_one) == 0 && lstat(path, &named) == 0 && open_one.st_dev == named.st_dev &&
+           open_one.st_ino == named.st_ino;
+}
+
+enum status open_alone(const char *path, int *file, bool *made)
+{
+    for (int try = 0; try < 100; try++) {
+        struct flock lock = {.l_type = F_WRLCK, .l_whence = SEEK_SET};
+        struct stat found;
+        if (lstat(path, &found) == 0 && !S_ISREG(found.st_mode)) {
+            say("%s: is not a file; give another name", path);
+            return STATUS_REFUSED;
+        }
+        *file = open(path, O_RDWR | O_CREAT | O_EXCL | O_NOFOLLOW | O_CLOEXEC, 0666);
+        *made = *file >= 0;
+        if (*file < 0 && errno == EEXIST) {
+            *file = open(path, O_RDWR | O_NOFOLLOW | O_CLOEXEC);
+            if (*file < 0 && errno == ENOENT)
+                continue; /* it lost its name between the two */
+        }
+        if (*file < 0) {
+            say("%s: cannot be written: %s", path, strerror(errno));
+            return STATUS_UNWRITTEN;
+        }
+        if (fcntl(*file, F_SETLK, &lock) != 0 && (errno == EACCES || errno == EAGAIN))
+            break;
+        /* the run that held it before may have given it another name */
+        if (still_named(*file, path))
+            return STATUS_DONE;
+        close(*file);
+        *file = -1;
+    }
+    if (*file >= 0)
+        close(*file);
+    *file = -1;
+    say("%s: another run is writing it", path);
+    return STATUS_REFUSED;
 }
 
 enum status read_all(const char *path, char **bytes, size_t *length)
@@ -256,7 +349,7 @@ static enum status output_allowed(const struct place *place, bool replace)
             return STATUS_REFUSED;
         }
     }
-    file = open_part(place->path, &part);
+    file = open_part(place->path, &part, NULL);
     if (file < 0) {
         say("%s: cannot be written: %s", place->path, strerror(errno));
         return STATUS_UNWRITTEN;

@@ -5,15 +5,40 @@
 #ifndef WHOLE_H
 #define WHOLE_H
 
-#include "say.h"
+#include "sum.h"
 
+#include <sys/stat.h>
 #include <sys/types.h>
 
-/* Writes a whole file. Without `replace`, a file that stands at path stays, and the writing fails. */
-enum status whole_write(const char *path, const void *bytes, size_t length, bool replace);
+/* What may be written over: nothing, any file, or the one file that has this sum. */
+struct over {
+    bool any, own;
+    struct hex sum;
+};
+
+/* Writes a whole file. A file that stands at path and may not be written over stays, and the writing fails. One that is
+   written over hands on its mode. */
+enum status whole_write(const char *path, const void *bytes, size_t length, const struct over *over);
 
 /* Gives a file that is written and flushed its name, and flushes the folder. */
-enum status whole_name(const char *from, const char *path, bool replace);
+enum status whole_name(const char *from, const char *path, const struct over *over);
+
+/* Opens a file to read and write it, for this process alone: *made is whether it was not there before. The lock ends
+   when the file is closed, or any other that was opened by this name. */
+enum status open_alone(const char *path, int *file, bool *made);
+
+/* Whether an open file still has a name. */
+bool still_named(int file, const char *path);
+
+/* Gives an open file the mode and group of another, so that nobody reads it who could not read that one. */
+void keep_mode(int file, const struct stat *of);
+
+/* A fresh file beside path, for the owner alone where `of` is given; *name becomes its name. -1 and errno if there can
+   be none. */
+int open_part(const char *path, char **name, const struct stat *of);
+
+/* Adds `length` bytes of an open file, from its beginning, to a sum; whether they are all there. */
+bool sum_start(int file, uint64_t length, struct sum *sum);
 
 /* All bytes to an open file; the name is for the message. */
 enum status write_all(int to, const void *bytes, size_t length, const char *name);

@@ -1,0 +1,245 @@
+#include "beside.h"
+#include "whole.h"
+
+#include <errno.h>
+#include <fcntl.h>
+#include <inttypes.h>
+#include <stdio.h>
+#include <stdlib.h>
+#include <string.h>
+#include <unistd.h>
+
+#define FORM "pathpetal run 1\n"
+
+enum { LONGEST = 4096 }; /* bytes; what is longer was not written here */
+
+static void put_filter(struct text *text, uint32_t every)
+{
+    if (every)
+        text_add(text, "%" PRIu32, every);
+    else
+        text_add(text, "none");
+}
+
+void put_run(struct text *text, const char *mark, const struct run_id *run)
+{
+    text_add(text, "%sorigin %s at step %" PRIu32 "\n%sfilter-every ", mark, run->origin.text, run->origin_step, mark);
+    put_filter(text, run->filter_every);
+    text_add(text, "\n%spour %s\n", mark, run->pour.text);
+}
+
+static void put_saved(struct text *text, const struct saved *saved)
+{
+    text_add(text, "channel %s at step %" PRIu32 "\n", saved->channel.text, saved->step);
+    if (saved->recorded)
+        text_add(text, "record %s of %" PRIu64 " bytes: %" PRIu32 " rows from step %" PRIu32 "\n", saved->sum.text,
+                 saved->length, saved->rows, saved->first);
+}
+
+static void put_beside(struct text *text, const struct beside *beside)
+{
+    text_add(text, FORM);
+    put_run(text, "", &beside->run);
+    for (size_t k = 0; k < beside->count; k++)
+        put_saved(text, &beside->saved[k]);
+    text_add(text, "sum %s\n", sum_of(text->at, text->length).text);
+}
+
+/* How a filter or a pour reads in a sentence. */
+static void add_how(struct text *how, const char *option, const char *there, const char *here)
+{
+    text_add(how, "%s%s %s there, %s here", how->length ? "; " : "", option, there, here);
+}
+
+bool same_options(const struct run_id *there, const struct run_id *here, struct text *how)
+{
+    bool same = true;
+    if (there->filter_every != here->filter_every) {
+        struct text a = {0}, b = {0};
+        put_filter(&a, there->filter_every);
+        put_filter(&b, here->filter_every);
+        add_how(how, "--filter-every", a.at, b.at);
+        free(a.at);
+        free(b.at);
+        same = false;
+    }
+    if (!same_hex(&there->pour, &here->pour)) {
+        bool none_there = strcmp(there->pour.text, "none") == 0, none_here = strcmp(here->pour.text, "none") == 0;
+        add_how(how, "--pour", none_there ? "none" : "a table", none_here ? "none" : none_there ? "a table" : "another");
+        same = false;
+    }
+    return same;
+}
+
+bool same_run(const struct run_id *there, const struct run_id *here, struct text *how)
+{
+    bool same = same_options(there, here, how);
+    if (there->origin_step == here->origin_step && same_hex(&there->origin, &here->origin))
+        return same;
+    text_add(how, "%sit began with another channel", how->length ? "; " : "");
+    return false;
+}
+
+/* A channel's two lines; gives what follows them, NULL if they are not there. */
+static const char *take_saved(const char *at, struct saved *saved)
+{
+    int used = 0;
+    *saved = (struct saved){.step = 0};
+    if (sscanf(at, "channel %64[0-9a-f] at step %7" SCNu32 "%n", saved->channel.text, &saved->step, &used) != 2)
+        return NULL;
+    at += used + (at[used] == '\n');
+    used = 0;
+    if (sscanf(at, "record %64[0-9a-f] of %18" SCNu64 " bytes: %7" SCNu32 " rows from step %7" SCNu32 "%n",
+               saved->sum.text, &saved->length, &saved->rows, &saved->first, &used) == 4 && used > 0) {
+        saved->recorded = true;
+        at += used + (at[used] == '\n');
+    }
+    return at;
+}
+
+/* Takes a text apart. It is one of ours only if putting it together again gives the same bytes. */
+static bool take_beside(const char *text, size_t length, struct beside *beside)
+{
+    struct text again = {0};
+    char every[16] = "";
+    const char *at;
+    int used = 0;
+    bool same;
+    if (sscanf(text, FORM "origin %64[0-9a-f] at step %7" SCNu32 " filter-every %15s pour %64s%n",
+               beside->run.origin.text, &beside->run.origin_step, every, beside->run.pour.text, &used) != 4)
+        return false;
+    beside->run.filter_every = (uint32_t)strtoul(every, NULL, 10); /* "none" is 0 */
+    at = text + used + (text[used] == '\n');
+    while (beside->count < 2) {
+        const char *after = take_saved(at, &beside->saved[beside->count]);
+        if (!after)
+            break;
+        beside->count++;
+        at = after;
+    }
+    put_beside(&again, beside);
+    same = again.length == length && memcmp(again.at, text, length) == 0;
+    free(again.at);
+    return same;
+}
+
+/* Reads an open NAME.run. An empty one was left by a run that was killed before it saved anything. */
+static enum status take_open(struct beside *beside, int file)
+{
+    char text[LONGEST + 1];
+    size_t length = 0;
+    while (length < sizeof text) {
+        ssize_t got = read(file, text + length, sizeof text - length);
+        if (got < 0 && errno == EINTR)
+            continue;
+        if (got < 0) {
+            say("%s: cannot be read: %s", beside->path, strerror(errno));
+            return STATUS_REFUSED;
+        }
+        if (got == 0)
+            break;
+        length += (size_t)got;
+    }
+    if (length < sizeof text && length > 0)
+        text[length] = '\0';
+    beside->strange = length > 0 && (length == sizeof text || memchr(text, '\0', length) ||
+                                     !take_beside(text, length, beside));
+    if (beside->strange || length == 0)
+        beside->count = 0;
+    return STATUS_DONE;
+}
+
+static void beside_name(const char *channel, struct beside *beside)
+{
+    *beside = (struct beside){.path = joined(channel, ".run"), .file = -1};
+}
+
+enum status beside_read(const char *channel, struct beside *beside)
+{
+    enum status status;
+    int file;
+    beside_name(channel, beside);
+    file = open(beside->path, O_RDONLY | O_NONBLOCK | O_CLOEXEC);
+    if (file < 0 && (errno == ENOENT || errno == ENOTDIR || errno == ENAMETOOLONG || errno == ENXIO))
+        return STATUS_DONE;
+    if (file < 0) {
+        say("%s: cannot be read: %s", beside->path, strerror(errno));
+        return STATUS_REFUSED;
+    }
+    status = take_open(beside, file);
+    close(file);
+    return status;
+}
+
+enum status beside_hold(const char *channel, struct beside *beside)
+{
+    enum status status;
+    beside_name(channel, beside);
+    status = open_alone(beside->path, &beside->file, &beside->unused);
+    return status == STATUS_DONE ? take_open(beside, beside->file) : status;
+}
+
+const struct saved *beside_find(const struct beside *beside, const struct hex *channel)
+{
+    for (size_t k = 0; k < beside->count; k++)
+        if (same_hex(&beside->saved[k].channel, channel))
+            return &beside->saved[k];
+    return NULL;
+}
+
+/* Puts a text in the place of NAME.run, which stays this run's alone: the new file is locked before it has the name,
+   the old one until it has lost it. */
+static enum status replace_held(struct beside *beside, const struct text *text)
+{
+    struct flock lock = {.l_type = F_WRLCK, .l_whence = SEEK_SET};
+    struct stat before;
+    char *part = NULL;
+    enum status status;
+    bool there = fstat(beside->file, &before) == 0;
+    int file = open_part(beside->path, &part, there ? &before : NULL);
+    if (file < 0) {
+        say("%s: cannot be written: %s", beside->path, strerror(errno));
+        return STATUS_UNWRITTEN;
+    }
+    if (fcntl(file, F_SETLK, &lock) != 0)
+        errno = 0; /* where there are no locks, there was none before */
+    status = write_all(file, text->at, text->length, beside->path);
+    if (status == STATUS_DONE)
+        status = flush_file(file, beside->path);
+    if (status == STATUS_DONE)
+        status = whole_name(part, beside->path, &(struct over){.any = true});
+    if (status == STATUS_DONE || still_named(file, beside->path)) {
+        close(beside->file);
+        beside->file = file;
+        beside->unused = false;
+    } else {
+        unlink(part);
+        close(file);
+    }
+    free(part);
+    return status;
+}
+
+enum status beside_write(struct beside *beside, const struct run_id *run, const struct saved *stands,
+                         const struct saved *coming)
+{
+    struct beside next = {.run = *run, .saved = {*coming}, .count = 1};
+    struct text text = {0};
+    enum status status;
+    if (stands && !same_hex(&stands->channel, &coming->channel))
+        next.saved[next.count++] = *stands;
+    put_beside(&text, &next);
+    status = replace_held(beside, &text);
+    free(text.at);
+    return status;
+}
+
+void beside_free(struct beside *beside)
+{
+    if (beside->file >= 0 && beside->unused && still_named(beside->file, beside->path))
+        unlink(beside->path);
+    if (beside->file >= 0)
+        close(beside->file);
+    free(beside->path);
+    *beside = (struct beside){.file = -1};
+}

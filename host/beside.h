@@ -1,0 +1,66 @@
+/* beside.h: NAME.run, which stands beside each channel that a run saves, and says of which run it is.
+
+   A run is known by the channel that it began with and by what goes into its steps: the filter passes and the poured
+   water. Two runs that agree in these take the same numbers, so what one left the other may go on with. NAME.run also
+   says how far the staff record had come when the channel was saved. It is written before its channel and speaks of
+   two: the one that stands, and the one that is about to take its place. So whichever of them a killed run leaves, it
+   is known. */
+#ifndef BESIDE_H
+#define BESIDE_H
+
+#include "channel.h"
+#include "sum.h"
+#include "text.h"
+
+/* Which run. */
+struct run_id {
+    struct hex origin;     /* of the channel that it began with, */
+    uint32_t origin_step;  /* and its count */
+    uint32_t filter_every; /* 0 for never */
+    struct hex pour;       /* of the poured rows; "none" where nothing is poured */
+};
+
+/* A channel of a run, as it was saved. */
+struct saved {
+    struct hex channel;
+    uint32_t step;
+    bool recorded;   /* a staff record had come this far: */
+    struct hex sum;  /* of its first */
+    uint64_t length; /* bytes, which end with a row */
+    uint32_t rows, first; /* how many rows those are, and the step of the first */
+};
+
+struct beside {
+    char *path;
+    int file;    /* open for this run alone; -1 where it is only read */
+    bool unused; /* this run has made it and nothing is written to it */
+    bool strange; /* something stands there that no run has written */
+    struct run_id run;
+    struct saved saved[2];
+    size_t count; /* of saved channels; 0 where nothing is known */
+};
+
+/* The three lines on a run, as they stand in NAME.run and, each after a mark, in a record. */
+void put_run(struct text *text, const char *mark, const struct run_id *run);
+
+/* Whether two runs take the same filter passes and pour the same water; whether they also began with the same channel.
+   What differs is added to `how`. */
+bool same_options(const struct run_id *there, const struct run_id *here, struct text *how);
+bool same_run(const struct run_id *there, const struct run_id *here, struct text *how);
+
+/* Reads what stands beside a channel; nothing there is nothing known. */
+enum status beside_read(const char *channel, struct beside *beside);
+
+/* The same, for a channel that this run will save: no other run may save it meanwhile. */
+enum status beside_hold(const char *channel, struct beside *beside);
+
+/* What is known of a channel with these bytes; NULL if nothing is. */
+const struct saved *beside_find(const struct beside *beside, const struct hex *channel);
+
+/* Says of the channel about to be saved what it is. `stands` is the one at its name, NULL if it is none of this run. */
+enum status beside_write(struct beside *beside, const struct run_id *run, const struct saved *stands,
+                         const struct saved *coming);
+
+void beside_free(struct beside *beside);
+
+#endif

@@ -1,0 +1,76 @@
+#include "layout.h"
+
+#include <inttypes.h>
+#include <stdio.h>
+#include <stdlib.h>
+#include <string.h>
+
+void put_names(struct text *text, const size_t *cells, size_t count)
+{
+    text_add(text, "step,time_s");
+    for (size_t k = 0; k < count; k++)
+        text_add(text, ",cell_%zu_um", cells[k] + 1);
+    text_add(text, "\n");
+}
+
+void put_head(struct text *text, const struct head *head)
+{
+    put_run(text, "# ", &head->run);
+    text_add(text, "# every %" PRIu32 " from step %" PRIu32 "\n", head->every, head->first);
+}
+
+/* Like the last line and what stands beside a channel, a head is one of ours only if putting it together again gives
+   the same bytes. */
+size_t take_head(const char *lines, struct head *head)
+{
+    struct text again = {0};
+    char every[16] = "";
+    size_t length = 0;
+    *head = (struct head){.every = 0};
+    if (sscanf(lines, "# origin %64[0-9a-f] at step %7" SCNu32 " # filter-every %15s # pour %64s # every %7" SCNu32
+               " from step %7" SCNu32, head->run.origin.text, &head->run.origin_step, every, head->run.pour.text,
+               &head->every, &head->first) != 6 || head->every == 0)
+        return 0;
+    head->run.filter_every = (uint32_t)strtoul(every, NULL, 10); /* "none" is 0 */
+    put_head(&again, head);
+    if (strncmp(lines, again.at, again.length) == 0)
+        length = again.length;
+    free(again.at);
+    return length;
+}
+
+void put_tail(struct text *text, const struct tail *tail)
+{
+    text_add(text, "# %s: %" PRIu32 " of %" PRIu32 " steps accepted", tail->complete ? "complete" : "open",
+             tail->accepted, tail->wanted);
+    if (tail->first > 0)
+        text_add(text, ", recorded from step %" PRIu32, tail->first);
+    if (tail->summed)
+        text_add(text, ", %" PRIu32 " rows, sha256 ", tail->rows);
+}
+
+bool take_tail(const char *line, struct tail *tail)
+{
+    struct text again = {0};
+    const char *from, *rows;
+    bool same;
+    *tail = (struct tail){.complete = strncmp(line, "# complete: ", 12) == 0};
+    if (sscanf(line, tail->complete ? "# complete: %7" SCNu32 " of %7" SCNu32 : "# open: %7" SCNu32 " of %7" SCNu32,
+               &tail->accepted, &tail->wanted) != 2)
+        return false;
+    from = strstr(line, ", recorded from step ");
+    if (from && sscanf(from, ", recorded from step %7" SCNu32, &tail->first) != 1)
+        return false;
+    rows = strstr(line, " rows, sha256 ");
+    if (rows) {
+        while (rows > line && rows[-1] != ' ')
+            rows--;
+        tail->summed = sscanf(rows, "%7" SCNu32 " rows, sha256 %64[0-9a-f]", &tail->rows, tail->sum.text) == 2;
+    }
+    put_tail(&again, tail);
+    tail->before = again.length;
+    same = strncmp(line, again.at, again.length) == 0 &&
+           strcmp(line + again.length, tail->summed ? tail->sum.text : "") == 0;
+    free(again.at);
+    return same && (!tail->summed || strlen(tail->sum.text) == 64);
+}

@@ -1,0 +1,46 @@
+/* layout.h: the lines of a staff record that are not rows: its head and its last line.
+
+       step,time_s,cell_10_um,cell_60_um
+       # origin 6c0f... at step 0
+       # filter-every 50
+       # pour 8e1b...
+       # every 10 from step 0
+       0,0.000,0,0
+       ...
+       # complete: 6000 of 6000 steps accepted, 601 rows, sha256 91d4...
+
+   The head says of which run the record is and which rows it has; the sum at the very end is that of all bytes before
+   its own digits, so that nothing can be taken away or changed unseen. */
+#ifndef LAYOUT_H
+#define LAYOUT_H
+
+#include "beside.h"
+
+/* What the head says after the names of the columns. */
+struct head {
+    struct run_id run;
+    uint32_t every, first; /* the steps between two rows, and the step of the first */
+};
+
+/* The names of the columns, for cells counted from 0; then what the head says. */
+void put_names(struct text *text, const size_t *cells, size_t count);
+void put_head(struct text *text, const struct head *head);
+
+/* Takes apart the lines that follow the names; gives their length, 0 if they are no head. */
+size_t take_head(const char *lines, struct head *head);
+
+/* What the last line says. */
+struct tail {
+    bool complete;
+    uint32_t accepted, wanted, first;
+    bool summed; /* it has the two that follow: records of earlier programs have not */
+    uint32_t rows;
+    struct hex sum;
+    size_t before; /* bytes of the line before the digits of the sum */
+};
+
+/* The last line: without its sum, which is added with the line's end; and taken apart, without its end. */
+void put_tail(struct text *text, const struct tail *tail);
+bool take_tail(const char *line, struct tail *tail);
+
+#endif
