@@ -92,7 +92,7 @@ enum status staffs_read(const char *path, struct staffs *staffs)
         bool more = false;
         int64_t step = 0;
         status = csv_row(&csv, &more);
-        if (status != STATUS_DONE && csv.cut && csv.at == csv.length) {
+        if (status != STATUS_DONE && csv.cut) {
             say("the last line is cut: the run was stopped while it was written; run on from a checkpoint");
             break;
         }
