@@ -1,10 +1,19 @@
 #include "csv.h"
 #include "text.h"
-#include "whole.h"
 
+#include <errno.h>
+#include <fcntl.h>
 #include <stdarg.h>
 #include <stdlib.h>
 #include <string.h>
+#include <unistd.h>
+
+enum {
+    LINE_MOST = 1048576,       /* bytes of a line without its end */
+    ROOM_FIRST = 65536,        /* bytes of room to read into, at first */
+    ROOM_MOST = LINE_MOST + 2, /* for the longest line, its end and a zero byte */
+    FIELDS_MOST = 16384        /* of a line, as in spreadsheets */
+};
 
 static bool is_space(char c)
 {
@@ -90,6 +99,8 @@ static enum status cut_fields(struct csv *csv, char *at)
             while (end > field && is_space(end[-1]))
                 end--;
         }
+        if (csv->count == FIELDS_MOST)
+            return csv_wrong(csv, -1, "has more than %s fields", GROUPED(FIELDS_MOST));
         add_field(csv, field);
         if (*at == '\0') {
             *end = '\0';
@@ -108,27 +119,110 @@ static bool all_empty(const struct csv *csv)
     return true;
 }
 
+/* Reads more behind what is there; csv->ended becomes whether the file ends there. */
+static enum status read_on(struct csv *csv)
+{
+    ssize_t got;
+    csv->length -= csv->at;
+    memmove(csv->text, csv->text + csv->at, csv->length);
+    csv->at = 0;
+    if (csv->length + 1 == csv->text_room) {
+        csv->text_room = 2 * csv->text_room < ROOM_MOST ? 2 * csv->text_room : ROOM_MOST;
+        csv->text = more_room(csv->text, csv->text_room, 1);
+    }
+    do
+        got = read(csv->file, csv->text + csv->length, csv->text_room - csv->length - 1);
+    while (got < 0 && errno == EINTR);
+    if (got < 0) {
+        say("%s: cannot be read: %s", csv->path, strerror(errno));
+        return STATUS_REFUSED;
+    }
+    csv->ended = got == 0;
+    csv->length += (size_t)got;
+    return STATUS_DONE;
+}
+
+/* Whether a line is left; what is there then begins with it. */
+static enum status begin_line(struct csv *csv, bool *more)
+{
+    enum status status = STATUS_DONE;
+    if (csv->at == csv->length && !csv->ended)
+        status = read_on(csv);
+    *more = csv->at < csv->length;
+    if (status == STATUS_DONE && *more) {
+        csv->line++;
+        csv->cut = false;
+    }
+    return status;
+}
+
+/* Reads on until the line is whole: *length becomes its bytes without its end. */
+static enum status whole_line(struct csv *csv, size_t *length)
+{
+    size_t seen = 0; /* bytes of the line that hold no end */
+    for (;;) {
+        const char *line = csv->text + csv->at;
+        size_t there = csv->length - csv->at;
+        const char *end = memchr(line + seen, '\n', there - seen);
+        enum status status;
+        *length = end ? (size_t)(end - line) : there;
+        if (memchr(line + seen, '\0', *length - seen))
+            return csv_wrong(csv, -1, "is no plain text: it holds a zero byte; save the table as CSV in UTF-8");
+        if (*length > LINE_MOST)
+            return csv_wrong(csv, -1, "is longer than %s bytes; a table has a line for each row", GROUPED(LINE_MOST));
+        csv->cut = !end && csv->ended;
+        if (end || csv->ended)
+            return STATUS_DONE;
+        seen = there;
+        status = read_on(csv);
+        if (status != STATUS_DONE)
+            return status;
+    }
+}
+
+/* The line that begins what is there, as a text without its end; what follows it is then next. */
+static enum status take_line(struct csv *csv, char **line)
+{
+    size_t length = 0, ended;
+    enum status status = whole_line(csv, &length);
+    if (status != STATUS_DONE)
+        return status;
+    *line = csv->text + csv->at;
+    ended = length + (csv->cut ? 0 : 1);
+    if (csv->each)
+        csv->each(csv->to, *line, ended);
+    csv->at += ended;
+    (*line)[length] = '\0';
+    if (length > 0 && (*line)[length - 1] == '\r')
+        (*line)[length - 1] = '\0';
+    if (csv->line == 1 && strncmp(*line, "\xEF\xBB\xBF", 3) == 0)
+        *line += 3;
+    return STATUS_DONE;
+}
+
+static void set_remark(struct csv *csv, const char *line)
+{
+    free(csv->remark);
+    csv->remark = line ? joined(line, "") : NULL;
+}
+
 /* The next line that is neither blank nor a remark, cut into fields. */
 static enum status next_line(struct csv *csv, bool *more)
 {
-    while (csv->at < csv->length) {
-        char *line = csv->text + csv->at, *end = memchr(line, '\n', csv->length - csv->at), *first = line;
-        enum status status;
-        csv->cut = !end;
-        if (!end)
-            end = csv->text + csv->length;
-        csv->at = (size_t)(end - csv->text) + (csv->cut ? 0 : 1);
-        csv->line++;
-        *end = '\0';
-        if (end > line && end[-1] == '\r')
-            *--end = '\0';
-        while (is_space(*first))
-            first++;
+    for (;;) {
+        char *line = NULL, *first;
+        enum status status = begin_line(csv, more);
+        if (status != STATUS_DONE || !*more)
+            return status;
+        status = take_line(csv, &line);
+        if (status != STATUS_DONE)
+            return status;
+        first = line + strspn(line, " \t");
         if (*first == '#')
-            csv->remark = first;
+            set_remark(csv, first);
         if (*first == '#' || *first == '\0')
             continue;
-        if (memchr(line, '\r', (size_t)(end - line)))
+        if (strchr(line, '\r'))
             return csv_wrong(csv, -1, "a carriage return stands inside the line; save the table with line ends of "
                                       "Unix or Windows");
         status = cut_fields(csv, line);
@@ -136,38 +230,17 @@ static enum status next_line(struct csv *csv, bool *more)
             return status;
         if (all_empty(csv))
             continue;
-        csv->remark = NULL;
-        *more = true;
+        set_remark(csv, NULL);
         return STATUS_DONE;
     }
-    *more = false;
-    return STATUS_DONE;
 }
 
-enum status csv_open(struct csv *csv, const char *path)
+/* Keeps the fields of the line at hand as the column names. */
+static enum status take_names(struct csv *csv)
 {
-    bool more = false;
-    enum status status;
-    *csv = (struct csv){.path = path};
-    status = read_all(path, &csv->text, &csv->length);
-    if (status != STATUS_DONE)
-        return status;
-    if (memchr(csv->text, '\0', csv->length)) {
-        say("%s: is no plain text: it holds a zero byte; save the table as CSV in UTF-8", path);
-        return STATUS_REFUSED;
-    }
-    if (csv->length >= 3 && memcmp(csv->text, "\xEF\xBB\xBF", 3) == 0)
-        csv->at = 3;
-    status = next_line(csv, &more);
-    if (status != STATUS_DONE)
-        return status;
-    if (!more) {
-        say("%s: is empty: it needs a line of column names and a row a line", path);
-        return STATUS_REFUSED;
-    }
     csv->names = room_for(csv->count, sizeof *csv->names);
-    memcpy(csv->names, csv->fields, csv->count * sizeof *csv->names);
-    csv->columns = csv->count;
+    for (; csv->columns < csv->count; csv->columns++)
+        csv->names[csv->columns] = joined(csv->fields[csv->columns], "");
     if (csv->columns == 1 && strchr(csv->names[0], ';'))
         return csv_wrong(csv, -1, "columns are parted by ';'; save the table with commas");
     for (size_t k = 0; k < csv->columns; k++)
@@ -177,12 +250,44 @@ enum status csv_open(struct csv *csv, const char *path)
     return STATUS_DONE;
 }
 
+enum status csv_open_each(struct csv *csv, const char *path, void (*each)(void *to, const char *line, size_t length),
+                          void *to)
+{
+    bool more = false;
+    enum status status;
+    *csv = (struct csv){.path = path, .file = open(path, O_RDONLY | O_CLOEXEC), .each = each, .to = to};
+    if (csv->file < 0) {
+        say("%s: cannot be read: %s", path, strerror(errno));
+        return STATUS_REFUSED;
+    }
+    csv->text_room = ROOM_FIRST;
+    csv->text = room_for(csv->text_room, 1);
+    status = next_line(csv, &more);
+    if (status != STATUS_DONE)
+        return status;
+    if (!more) {
+        say("%s: is empty: it needs a line of column names and a row a line", path);
+        return STATUS_REFUSED;
+    }
+    return take_names(csv);
+}
+
+enum status csv_open(struct csv *csv, const char *path)
+{
+    return csv_open_each(csv, path, NULL, NULL);
+}
+
 void csv_close(struct csv *csv)
 {
-    free(csv->text);
-    free(csv->fields);
+    if (csv->file >= 0)
+        close(csv->file);
+    for (size_t k = 0; k < csv->columns; k++)
+        free(csv->names[k]);
     free(csv->names);
-    *csv = (struct csv){.path = NULL};
+    free(csv->fields);
+    free(csv->remark);
+    free(csv->text);
+    *csv = (struct csv){.file = -1};
 }
 
 enum status csv_row(struct csv *csv, bool *more)

@@ -225,7 +225,7 @@ enum status make_command(int count, char **words)
     const char *from = NULL, *to;
     struct survey *survey = NULL;
     struct columns columns;
-    struct csv csv = {.path = NULL};
+    struct csv csv = {.file = -1};
     int64_t counts[3]; /* width in mm, step in ms, steps wanted */
     enum status status = options_read(count, words, options, &from, 1, usage);
     bool replace;

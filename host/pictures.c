@@ -200,7 +200,7 @@ void draw_staffs(struct text *svg, const char *name, const struct staffs *staffs
     snprintf(about, sizeof about, "%s to %s s, %s rows", THOUSANDTHS(staffs->times[0]),
              THOUSANDTHS(staffs->times[staffs->rows - 1]), GROUPED((int64_t)staffs->rows));
     svg_begin(svg, WIDTH, 96 + (double)staffs->count * (tall + STAFF_APART) + 30);
-    head(svg, name, staffs_standing(staffs).text, staffs->complete, about);
+    head(svg, name, staffs_standing(staffs).text, staffs->whole == RECORD_COMPLETE, about);
     for (size_t k = 0; k < staffs->count; k++) {
         double top = 104 + (double)k * (tall + STAFF_APART);
         struct axis up = axis_for(lowest, highest, top + tall, top, 4, true);

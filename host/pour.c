@@ -16,6 +16,33 @@ static int by_step_and_cell(const void *left, const void *right)
     return a->line < b->line ? -1 : a->line > b->line;
 }
 
+/* Puts the rows in order; a step and cell that stand twice are refused. */
+static enum status sort_rows(const struct csv *csv, struct pour *pour)
+{
+    if (pour->count > 0)
+        qsort(pour->list, pour->count, sizeof *pour->list, by_step_and_cell);
+    for (size_t k = 1; k < pour->count; k++)
+        if (pour->list[k - 1].step == pour->list[k].step && pour->list[k - 1].cell == pour->list[k].cell) {
+            say("%s: line %lu: step %s, cell %s stands on line %lu already; give one amount", csv->path,
+                pour->list[k].line, GROUPED(pour->list[k].step), GROUPED(pour->list[k].cell), pour->list[k - 1].line);
+            return STATUS_REFUSED;
+        }
+    return STATUS_DONE;
+}
+
+/* Room for one row more. Where it must grow, the rows so far are looked at: a table without end does not take all
+   memory, for its rows stand there twice before long. */
+static enum status one_more(const struct csv *csv, struct pour *pour, size_t *room)
+{
+    enum status status;
+    if (pour->count < *room)
+        return STATUS_DONE;
+    status = sort_rows(csv, pour);
+    *room = *room ? 2 * *room : 64;
+    pour->list = more_room(pour->list, *room, sizeof *pour->list);
+    return status;
+}
+
 static enum status take_rows(struct csv *csv, const uint8_t *file, struct pour *pour)
 {
     const char *names[3] = {"step", "cell", "amount_um"};
@@ -43,10 +70,9 @@ static enum status take_rows(struct csv *csv, const uint8_t *file, struct pour *
             if (status != STATUS_DONE)
                 return status;
         }
-        if (pour->count == room) {
-            room = room ? 2 * room : 64;
-            pour->list = more_room(pour->list, room, sizeof *pour->list);
-        }
+        status = one_more(csv, pour, &room);
+        if (status != STATUS_DONE)
+            return status;
         pour->list[pour->count++] = (struct poured){.step = (uint32_t)numbers[0],
                                                     .cell = (uint32_t)numbers[1],
                                                     .amount = (int32_t)numbers[2],
@@ -62,14 +88,8 @@ enum status pour_read(const char *path, const uint8_t *file, struct pour *pour)
     status = csv_open(&csv, path);
     if (status == STATUS_DONE)
         status = take_rows(&csv, file, pour);
-    if (status == STATUS_DONE && pour->count > 0)
-        qsort(pour->list, pour->count, sizeof *pour->list, by_step_and_cell);
-    for (size_t k = 1; status == STATUS_DONE && k < pour->count; k++)
-        if (pour->list[k - 1].step == pour->list[k].step && pour->list[k - 1].cell == pour->list[k].cell) {
-            say("%s: line %lu: step %s, cell %s stands on line %lu already; give one amount", path, pour->list[k].line,
-                GROUPED(pour->list[k].step), GROUPED(pour->list[k].cell), pour->list[k - 1].line);
-            status = STATUS_REFUSED;
-        }
+    if (status == STATUS_DONE)
+        status = sort_rows(&csv, pour);
     csv_close(&csv);
     return status;
 }

@@ -1,10 +1,15 @@
 #include "staff.h"
 #include "csv.h"
-#include "text.h"
+#include "layout.h"
 
 #include <stdio.h>
 #include <stdlib.h>
 #include <string.h>
+
+enum {
+    HEAD_LINES = 4,    /* of a head after the names of the columns */
+    LINE_LONGEST = 200 /* bytes of such a line, and more */
+};
 
 int64_t staff_height(const struct staffs *staffs, size_t row, size_t staff)
 {
@@ -54,45 +59,78 @@ static enum status take_columns(const struct csv *csv, struct staffs *staffs)
     return STATUS_DONE;
 }
 
-/* What the last line says: "# complete: 6000 of 6000 steps accepted". It counts only where the rows go that far. */
-static void take_last_line(const struct csv *csv, int64_t last, int64_t every, struct staffs *staffs)
+/* What a record's lines say of it, taken in while they are read. */
+struct lines {
+    unsigned long count;
+    struct text head;   /* the lines that follow the names: as many as a head has */
+    struct sum sum;     /* of all lines */
+    struct sum before;  /* of all but the last */
+};
+
+static void take_line(void *to, const char *line, size_t length)
 {
-    unsigned accepted = 0, wanted = 0;
-    struct text expected = {0};
-    bool complete;
-    staffs->accepted = (uint32_t)last;
-    if (!csv->remark || csv->cut)
-        return;
-    complete = strncmp(csv->remark, "# complete: ", 12) == 0;
-    if (sscanf(csv->remark, complete ? "# complete: %7u of %7u" : "# open: %7u of %7u", &accepted, &wanted) != 2)
-        return;
-    text_add(&expected, "# %s: %u of %u steps accepted", complete ? "complete" : "open", accepted, wanted);
-    if (staffs->first > 0)
-        text_add(&expected, ", recorded from step %u", (unsigned)staffs->first);
-    if (strcmp(csv->remark, expected.at) == 0 && accepted <= wanted && wanted <= STEPS_MOST && accepted >= last &&
-        (every == 0 || accepted < last + every)) {
-        staffs->accepted = accepted;
-        staffs->wanted = wanted;
-        staffs->complete = complete && accepted == wanted;
+    struct lines *lines = to;
+    if (lines->count > 0 && lines->count <= HEAD_LINES)
+        text_add_bytes(&lines->head, line, length < LINE_LONGEST ? length : LINE_LONGEST);
+    lines->count++;
+    lines->before = lines->sum;
+    sum_add(&lines->sum, line, length);
+}
+
+/* Whether the last line has the sum of all before its digits. */
+static bool sum_is_right(const struct lines *lines, const char *last, const struct tail *tail)
+{
+    struct sum sum = lines->before;
+    struct hex hex;
+    sum_add(&sum, last, tail->before);
+    hex = sum_hex(&sum);
+    return same_hex(&hex, &tail->sum);
+}
+
+/* Judges a record by its head, its rows and its last line. `every` is 0 where there is one row alone. */
+static void judge(const struct csv *csv, const struct lines *lines, uint32_t last, uint32_t every,
+                  struct staffs *staffs)
+{
+    struct head head;
+    struct tail tail;
+    bool headed = lines->head.at && take_head(lines->head.at, &head) > 0;
+    bool ended = csv->remark && !csv->cut && take_tail(csv->remark, &tail);
+    staffs->accepted = last;
+    staffs->whole = RECORD_CHANGED;
+    if (!ended && (!csv->remark || csv->cut)) {
+        staffs->whole = RECORD_CUT;
+    } else if (ended && !headed && !tail.summed) {
+        staffs->whole = RECORD_OLD;
+    } else if (ended && headed && tail.summed && sum_is_right(lines, csv->remark, &tail) &&
+               tail.rows == staffs->rows && head.first == staffs->first && tail.first == staffs->first &&
+               (every == 0 || every == head.every) && tail.accepted >= last &&
+               (uint64_t)tail.accepted < (uint64_t)last + head.every && tail.accepted <= tail.wanted &&
+               tail.complete == (tail.accepted == tail.wanted)) {
+        staffs->whole = tail.complete ? RECORD_COMPLETE : RECORD_OPEN;
+        staffs->accepted = tail.accepted;
+        staffs->wanted = tail.wanted;
     }
-    free(expected.at);
+    if (headed && (head.first != staffs->first || (every > 0 && every != head.every)))
+        staffs->whole = RECORD_CHANGED;
 }
 
 enum status staffs_read(const char *path, struct staffs *staffs)
 {
     struct csv csv;
+    struct lines lines = {.count = 0};
     size_t room = 0;
     int64_t last = -1, every = 0; /* the step of the row before, and the steps between two rows */
     enum status status;
     *staffs = (struct staffs){.count = 0};
-    status = csv_open(&csv, path);
+    sum_begin(&lines.sum);
+    status = csv_open_each(&csv, path, take_line, &lines);
     if (status == STATUS_DONE)
         status = take_columns(&csv, staffs);
     while (status == STATUS_DONE) {
         bool more = false;
         int64_t step = 0;
         status = csv_row(&csv, &more);
-        if (status != STATUS_DONE && csv.cut && csv.at == csv.length) {
+        if (status != STATUS_DONE && csv.cut) {
             say("the last line is cut: the run was stopped while it was written; run on from a checkpoint");
             break;
         }
@@ -127,7 +165,8 @@ enum status staffs_read(const char *path, struct staffs *staffs)
         status = STATUS_REFUSED;
     }
     if (status == STATUS_DONE)
-        take_last_line(&csv, last, every, staffs);
+        judge(&csv, &lines, (uint32_t)last, (uint32_t)every, staffs);
+    free(lines.head.at);
     csv_close(&csv);
     return status;
 }
@@ -141,16 +180,29 @@ void staffs_free(struct staffs *staffs)
 
 struct standing staffs_standing(const struct staffs *staffs)
 {
-    struct standing out;
+    struct standing out = {""};
     char from[64] = "";
     if (staffs->first > 0)
         snprintf(from, sizeof from, ", recorded from step %s", GROUPED(staffs->first));
-    if (staffs->complete)
+    switch (staffs->whole) {
+    case RECORD_COMPLETE:
         snprintf(out.text, sizeof out.text, "complete: all %s steps accepted%s", GROUPED(staffs->wanted), from);
-    else if (staffs->wanted > 0)
+        break;
+    case RECORD_OPEN:
         snprintf(out.text, sizeof out.text, "open: %s of %s steps accepted%s", GROUPED(staffs->accepted),
                  GROUPED(staffs->wanted), from);
-    else
+        break;
+    case RECORD_CUT:
         snprintf(out.text, sizeof out.text, "open: cut after step %s%s", GROUPED(staffs->accepted), from);
+        break;
+    case RECORD_CHANGED:
+        snprintf(out.text, sizeof out.text, "not whole: cut or changed after it was written; its last row is of step "
+                 "%s", GROUPED(staffs->accepted));
+        break;
+    case RECORD_OLD:
+        snprintf(out.text, sizeof out.text, "cannot tell whether whole: an earlier program wrote it, without a check "
+                 "sum; its last row is of step %s", GROUPED(staffs->accepted));
+        break;
+    }
     return out;
 }

@@ -4,6 +4,15 @@
 
 #include "channel.h"
 
+/* What a record's head, rows and last line say together. */
+enum whole {
+    RECORD_COMPLETE, /* its last line says complete, and nothing of it is lost or changed */
+    RECORD_OPEN,     /* the same of a run that ended open */
+    RECORD_CUT,      /* it has no last line: its run was killed, or still goes */
+    RECORD_CHANGED,  /* something of it is lost or changed since it was written */
+    RECORD_OLD       /* an earlier program wrote it, without a sum */
+};
+
 struct staffs {
     size_t count, rows;
     uint32_t *cells;   /* of each staff, from 1 */
@@ -12,7 +21,7 @@ struct staffs {
     uint32_t first;    /* the step of the first row */
     uint32_t accepted; /* the count that the record has come to */
     uint32_t wanted;   /* 0 where the record does not say it */
-    bool complete;     /* its last line says complete, and its rows go that far */
+    enum whole whole;
 };
 
 enum status staffs_read(const char *path, struct staffs *staffs);

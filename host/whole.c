@@ -244,40 +244,6 @@ enum status open_alone(const char *path, int *file, bool *made)
     return STATUS_REFUSED;
 }
 
-enum status read_all(const char *path, char **bytes, size_t *length)
-{
-    size_t room = 1 << 16;
-    int file = open(path, O_RDONLY | O_CLOEXEC);
-    if (file < 0) {
-        say("%s: cannot be read: %s", path, strerror(errno));
-        return STATUS_REFUSED;
-    }
-    *bytes = room_for(room, 1);
-    *length = 0;
-    for (;;) {
-        ssize_t got = read(file, *bytes + *length, room - *length - 1);
-        if (got < 0 && errno == EINTR)
-            continue;
-        if (got < 0) {
-            say("%s: cannot be read: %s", path, strerror(errno));
-            close(file);
-            free(*bytes);
-            *bytes = NULL;
-            return STATUS_REFUSED;
-        }
-        if (got == 0)
-            break;
-        *length += (size_t)got;
-        if (room - *length < 2) {
-            room *= 2;
-            *bytes = more_room(*bytes, room, 1);
-        }
-    }
-    (*bytes)[*length] = '\0';
-    close(file);
-    return STATUS_DONE;
-}
-
 static struct place place_of(const char *use, const char *path, bool input)
 {
     struct place place = {.use = use, .path = path, .input = input};

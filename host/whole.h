@@ -47,9 +47,6 @@ enum status write_all(int to, const void *bytes, size_t length, const char *name
 enum status flush_file(int file, const char *name);
 enum status flush_folder(const char *path);
 
-/* A file's whole contents with a zero byte after them, or a message. */
-enum status read_all(const char *path, char **bytes, size_t *length);
-
 /* A place in the file system: a file that is there, and the name in its folder. */
 struct place {
     const char *use;  /* what the command calls it: START, END */
