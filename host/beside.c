@@ -187,49 +187,21 @@ const struct saved *beside_find(const struct beside *beside, const struct hex *c
     return NULL;
 }
 
-/* Puts a text in the place of NAME.run, which stays this run's alone: the new file is locked before it has the name,
-   the old one until it has lost it. */
-static enum status replace_held(struct beside *beside, const struct text *text)
-{
-    struct flock lock = {.l_type = F_WRLCK, .l_whence = SEEK_SET};
-    struct stat before;
-    char *part = NULL;
-    enum status status;
-    bool there = fstat(beside->file, &before) == 0;
-    int file = open_part(beside->path, &part, there ? &before : NULL);
-    if (file < 0) {
-        say("%s: cannot be written: %s", beside->path, strerror(errno));
-        return STATUS_UNWRITTEN;
-    }
-    if (fcntl(file, F_SETLK, &lock) != 0)
-        errno = 0; /* where there are no locks, there was none before */
-    status = write_all(file, text->at, text->length, beside->path);
-    if (status == STATUS_DONE)
-        status = flush_file(file, beside->path);
-    if (status == STATUS_DONE)
-        status = whole_name(part, beside->path, &(struct over){.any = true});
-    if (status == STATUS_DONE || still_named(file, beside->path)) {
-        close(beside->file);
-        beside->file = file;
-        beside->unused = false;
-    } else {
-        unlink(part);
-        close(file);
-    }
-    free(part);
-    return status;
-}
-
 enum status beside_write(struct beside *beside, const struct run_id *run, const struct saved *stands,
                          const struct saved *coming)
 {
-    struct beside next = {.run = *run, .saved = {*coming}, .count = 1};
+    struct beside says = {.run = *run, .saved = {*coming}, .count = 1};
     struct text text = {0};
-    enum status status;
+    struct next next;
+    enum status status = next_begin(beside->path, beside->file, &next);
+    if (status != STATUS_DONE)
+        return status;
     if (stands && !same_hex(&stands->channel, &coming->channel))
-        next.saved[next.count++] = *stands;
-    put_beside(&text, &next);
-    status = replace_held(beside, &text);
+        says.saved[says.count++] = *stands;
+    put_beside(&text, &says);
+    status = write_all(next.file, text.at, text.length, beside->path);
+    status = next_end(beside->path, &beside->file, &next, status);
+    beside->unused = beside->unused && status != STATUS_DONE;
     free(text.at);
     return status;
 }

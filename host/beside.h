@@ -33,7 +33,7 @@ struct saved {
 struct beside {
     char *path;
     int file;    /* open for this run alone; -1 where it is only read */
-    bool unused; /* this run has made it and nothing is written to it */
+    bool unused; /* it speaks of no channel that is there, and goes with this run */
     bool strange; /* something stands there that no run has written */
     struct run_id run;
     struct saved saved[2];

@@ -155,6 +155,12 @@ enum status record_open(struct record *record, const struct run_id *run)
     return STATUS_DONE;
 }
 
+uint32_t record_first(const struct record *record, const uint8_t *file)
+{
+    uint32_t every = record->head.every;
+    return (pathpetal_accepted(file) + every - 1) / every * every;
+}
+
 bool record_find(struct record *record, const struct saved *saved)
 {
     const int files[] = {record->file, record->named};
@@ -205,9 +211,9 @@ static struct text what_differs(const struct record *record, const uint8_t *file
 
 enum status record_anew(struct record *record, const uint8_t *file, bool replace)
 {
-    uint32_t accepted = pathpetal_accepted(file), every = record->head.every;
+    uint32_t accepted = pathpetal_accepted(file);
     struct text how = {0};
-    record->head.first = (accepted + every - 1) / every * every;
+    record->head.first = record_first(record, file);
     record->found = -1;
     record->rows = 0;
     if (begins_own(record, record->file, true)) {
@@ -248,7 +254,7 @@ enum status record_name_free(struct record *record, bool replace)
 }
 
 /* Copies the rows that are kept from NAME. */
-static enum status copy_named(const struct record *record)
+static enum status copy_named(const struct record *record, int to)
 {
     char some[65536];
     for (uint64_t at = 0; at < record->sum.length;) {
@@ -257,7 +263,7 @@ static enum status copy_named(const struct record *record)
         enum status status;
         if (got == 0)
             return cannot(record, "copied");
-        status = write_all(record->file, some, got, record->open_path);
+        status = write_all(to, some, got, record->open_path);
         if (status != STATUS_DONE)
             return status;
         at += got;
@@ -265,36 +271,45 @@ static enum status copy_named(const struct record *record)
     return STATUS_DONE;
 }
 
-static enum status write_head(struct record *record)
+static enum status write_head(struct record *record, int to)
 {
     struct text head = own_head(record);
-    enum status status = write_all(record->file, head.at, head.length, record->open_path);
+    enum status status = write_all(to, head.at, head.length, record->open_path);
     sum_begin(&record->sum);
     sum_add(&record->sum, head.at, head.length);
     free(head.at);
     return status;
 }
 
+/* Puts a new NAME.open, which begins with its head or with the rows of NAME, in the place of the one at hand: so there
+   is never one with half a head. */
+static enum status renew(struct record *record)
+{
+    struct next next;
+    enum status status = next_begin(record->open_path, record->file, &next);
+    if (status != STATUS_DONE)
+        return status;
+    status = record->found < 0 ? write_head(record, next.file) : copy_named(record, next.file);
+    return next_end(record->open_path, &record->file, &next, status);
+}
+
+/* Cuts NAME.open back to the rows that are kept. */
+static enum status cut_back(const struct record *record)
+{
+    off_t length = (off_t)record->sum.length;
+    if (length_of(record->file) > record->sum.length && ftruncate(record->file, length) != 0)
+        return cannot(record, "cut");
+    return lseek(record->file, length, SEEK_SET) < 0 ? cannot(record, "written") : STATUS_DONE;
+}
+
 enum status record_begin(struct record *record, const uint8_t *file)
 {
     uint32_t accepted = pathpetal_accepted(file);
-    bool stays = record->found == record->file;
-    uint64_t length = stays ? record->sum.length : 0; /* what is kept of NAME.open stays where it stands */
-    enum status status = STATUS_DONE;
-    record->begun = true;
-    if (length_of(record->file) > length && ftruncate(record->file, (off_t)length) != 0)
-        return cannot(record, "cut");
-    if (lseek(record->file, (off_t)length, SEEK_SET) < 0)
-        return cannot(record, "written");
-    if (!stays)
-        status = record->found < 0 ? write_head(record) : copy_named(record);
+    enum status status = record->found == record->file ? cut_back(record) : renew(record);
+    record->begun = status == STATUS_DONE;
     if (status == STATUS_DONE && record_due(record, accepted) &&
         record->head.first + (uint64_t)record->rows * record->head.every == accepted)
         status = record_row(record, file);
-    if (status == STATUS_DONE)
-        status = record_flush(record);
-    if (status == STATUS_DONE)
-        status = flush_folder(record->open_path);
     return status;
 }
 

@@ -34,6 +34,9 @@ enum status record_cells(const char *list, const uint8_t *file, struct record *r
 /* Opens NAME.open for this run alone, and looks at NAME; writes nothing. */
 enum status record_open(struct record *record, const struct run_id *run);
 
+/* The step of the first row of a record that begins with a channel. */
+uint32_t record_first(const struct record *record, const uint8_t *file);
+
 /* Whether the rows that a saved channel has behind it are there, as it was saved with them; they are kept then. */
 bool record_find(struct record *record, const struct saved *saved);
 

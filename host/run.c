@@ -350,7 +350,7 @@ static enum status know_start(struct run *run)
     run->id.origin_step = accepted;
     found = status == STATUS_DONE ? beside_find(&beside, &run->id.origin) : NULL;
     if (found && found->step > beside.run.origin_step) {
-        if (!same_options(&beside.run, &run->id, &how)) {
+        if (!same_options(&beside.run, &run->id, &how) && !pathpetal_complete(run->channel.bytes)) {
             say("%s: its last steps were taken with other options: %s", run->start, how.at);
             say("give the same options; or, to begin a run of its own from it, copy it under another name");
             status = STATUS_REFUSED;
@@ -365,13 +365,20 @@ static enum status know_start(struct run *run)
     return status;
 }
 
+/* Whether a record that was saved begins where one does that goes on from START, or begins there. */
+static bool begins_alike(const struct run *run, const struct saved *saved)
+{
+    return saved->recorded && (saved->first == record_first(&run->record, run->channel.bytes) ||
+                               (run->start_saved.recorded && saved->first == run->start_saved.first));
+}
+
 /* Whether a channel that the same run has left is gone on with: it is further than START, and the record has the rows
    that belong to it. */
 static bool goes_on_from(struct run *run, const struct save *left)
 {
     if (run->from || !left->own || left->stands.step < pathpetal_accepted(run->channel.bytes))
         return false;
-    if (!run->record.path || record_find(&run->record, &left->stands))
+    if (!run->record.path || (begins_alike(run, &left->stands) && record_find(&run->record, &left->stands)))
         return true;
     say("%s: is of this run, but %s has not the rows that belong to it: it is not gone on with", left->path,
         run->record.open_path);

@@ -68,8 +68,10 @@ enum status save_write(struct save *save, const struct run_id *run, const struct
     if (said != STATUS_DONE && !insist)
         return said;
     status = whole_write(save->path, channel->bytes, channel->length, &save->over);
-    if (status != STATUS_DONE)
+    if (status != STATUS_DONE) {
+        save->beside.unused = !save->own; /* it speaks of nothing that is there, and goes */
         return status;
+    }
     save->own = said == STATUS_DONE;
     save->stands = *coming;
     save->over.own = true;

@@ -161,7 +161,10 @@ enum status staffs_read(const char *path, struct staffs *staffs)
         staffs->rows++;
     }
     if (status == STATUS_DONE && staffs->rows == 0) {
-        say("%s: has no rows yet", path);
+        struct tail tail;
+        bool lost = csv.remark && take_tail(csv.remark, &tail) && tail.rows > 0;
+        say(lost ? "%s: has no rows, but its last line counts some: it was cut after it was written"
+                 : "%s: has no rows yet", path);
         status = STATUS_REFUSED;
     }
     if (status == STATUS_DONE)

@@ -153,7 +153,9 @@ void keep_mode(int file, const struct stat *of)
         return; /* it stays with the owner alone */
 }
 
-int open_part(const char *path, char **name, const struct stat *of)
+/* A fresh file beside path, which nobody reads who may not read `of`, where that is given; *name becomes its name. -1
+   and errno if there can be none. */
+static int open_part(const char *path, char **name, const struct stat *of)
 {
     for (int try = 0; try < 1000; try++) {
         char ending[64];
@@ -242,6 +244,38 @@ enum status open_alone(const char *path, int *file, bool *made)
     *file = -1;
     say("%s: another run is writing it", path);
     return STATUS_REFUSED;
+}
+
+enum status next_begin(const char *path, int alone, struct next *next)
+{
+    struct flock lock = {.l_type = F_WRLCK, .l_whence = SEEK_SET};
+    struct stat before;
+    next->file = open_part(path, &next->part, fstat(alone, &before) == 0 ? &before : NULL);
+    if (next->file < 0) {
+        say("%s: cannot be written: %s", path, strerror(errno));
+        return STATUS_UNWRITTEN;
+    }
+    if (fcntl(next->file, F_SETLK, &lock) != 0)
+        errno = 0; /* where there are no locks, there was none before */
+    return STATUS_DONE;
+}
+
+enum status next_end(const char *path, int *alone, struct next *next, enum status so_far)
+{
+    enum status status = so_far;
+    if (status == STATUS_DONE)
+        status = flush_file(next->file, path);
+    if (status == STATUS_DONE)
+        status = whole_name(next->part, path, &(struct over){.any = true});
+    if (still_named(next->file, path)) {
+        close(*alone);
+        *alone = next->file;
+    } else {
+        unlink(next->part);
+        close(next->file);
+    }
+    free(next->part);
+    return status;
 }
 
 static struct place place_of(const char *use, const char *path, bool input)

@@ -33,9 +33,16 @@ bool still_named(int file, const char *path);
 /* Gives an open file the mode and group of another, so that nobody reads it who could not read that one. */
 void keep_mode(int file, const struct stat *of);
 
-/* A fresh file beside path, for the owner alone where `of` is given; *name becomes its name. -1 and errno if there can
-   be none. */
-int open_part(const char *path, char **name, const struct stat *of);
+/* A fresh file that is to take the place of one that is open for this process alone, and is so too: it is locked before
+   it has the name, the old one until it has lost it. */
+struct next {
+    int file;
+    char *part;
+};
+enum status next_begin(const char *path, int alone, struct next *next);
+
+/* Flushes what was written to it and gives it the name, if all went well so far: *alone becomes the new file. */
+enum status next_end(const char *path, int *alone, struct next *next, enum status so_far);
 
 /* Adds `length` bytes of an open file, from its beginning, to a sum; whether they are all there. */
 bool sum_start(int file, uint64_t length, struct sum *sum);
