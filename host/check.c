@@ -16,7 +16,7 @@ enum status check_command(int count, char **words)
     channel = room_for(1, sizeof *channel);
     status = channel_read(path, channel);
     if (status == STATUS_DONE) {
-        tell("%s: %s\n", path, standing(channel->bytes).text);
+        tell("%s: %s", path, standing(channel->bytes).text);
         status = told();
         if (status == STATUS_DONE && option_value(options, "--complete") && !pathpetal_complete(channel->bytes))
             status = STATUS_OPEN;

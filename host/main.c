@@ -91,7 +91,7 @@ static bool asks_help(const char *word)
 
 static enum status help(const char *text)
 {
-    tell("%s", text);
+    tell_page(text);
     return told();
 }
 
