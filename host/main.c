@@ -18,7 +18,7 @@ static const char overall_help[] =
     "  pathpetal make SURVEY.csv -o START ...   a channel file from a survey\n"
     "  pathpetal run START -o END ...           take the channel's steps\n"
     "  pathpetal show FILE ...                  a channel or a staff record, in words and as a picture\n"
-    "  pathpetal check FILE                     whether a file is a channel file, and complete\n"
+    "  pathpetal check FILE ...                 whether a channel or a staff record is whole, and complete\n"
     "  pathpetal COMMAND --help                 more of a command\n"
     "\n"
     "No command changes or removes a file that it reads. A file that is there is written over only\n"
@@ -69,9 +69,12 @@ static const char show_help[] =
 
 static const char check_help[] =
     "pathpetal check FILE [--complete]\n"
+    "pathpetal check --staff RECORD.csv [--complete]\n"
     "\n"
-    "Whether FILE is a channel file that a run takes (0), or why not in words (3).\n"
+    "Whether FILE is a channel file that a run takes, or RECORD.csv a staff record of which nothing is\n"
+    "lost or changed (0), or why not in words (3).\n"
     "\n"
+    "  --staff      the file is a staff record\n"
     "  --complete   also whether it is complete: 5 if it is open\n" STATUSES;
 
 static const struct {
@@ -91,7 +94,7 @@ static bool asks_help(const char *word)
 
 static enum status help(const char *text)
 {
-    tell("%s", text);
+    tell_page(text);
     return told();
 }
 

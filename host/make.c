@@ -177,12 +177,12 @@ static void tell_unused(const struct csv *csv, const struct columns *columns)
             text_add(&names, "%s '%s'", names.length ? "," : "", SHOWN(csv->names[k]));
     }
     if (names.length)
-        tell("  not used:%s\n", names.at);
+        tell("  not used:%s", names.at);
     free(names.at);
     if (columns->height < 0)
-        tell("  no column height_um: all heights are 0\n");
+        tell("  no column height_um: all heights are 0");
     if (columns->velocity < 0)
-        tell("  no column velocity_um_s: all velocities are 0\n");
+        tell("  no column velocity_um_s: all velocities are 0");
 }
 
 static enum status make_file(const struct csv *csv, const struct columns *columns, const struct survey *survey,
@@ -205,7 +205,7 @@ static enum status make_file(const struct csv *csv, const struct columns *column
         status = whole_write(path, file, length, &(struct over){.any = replace});
     }
     if (status == STATUS_DONE) {
-        tell("%s: %zu cells of %s mm, %s steps of %s ms wanted\n", path, cells, GROUPED(counts[0]),
+        tell("%s: %zu cells of %s mm, %s steps of %s ms wanted", path, cells, GROUPED(counts[0]),
              GROUPED(counts[2]), GROUPED(counts[1]));
         tell_unused(csv, columns);
         status = told();

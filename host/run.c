@@ -78,25 +78,29 @@ static double clock_s(void)
     return (double)now.tv_sec + (double)now.tv_nsec / 1e9;
 }
 
-/* "1,200 of 6,000 steps, 20 %, about 40 s left", on a terminal and five times a second. */
+/* On a terminal and five times a second, the longest of these that is not wrapped there:
+   "1,200 of 6,000 steps, 20 %, about 40 s left", "1,200 of 6,000 steps, 20 %", "20 %" or nothing. */
 static void show_progress(struct run *run)
 {
     uint32_t accepted = pathpetal_accepted(run->channel.bytes), wanted = pathpetal_wanted(run->channel.bytes);
-    double now = clock_s(), left;
-    char text[160], rest[64] = "";
+    double now = clock_s(), left = 0;
+    char share[16], steps[96], all[192];
+    const char *forms[] = {all, steps, share, ""};
+    size_t form = 0;
     if (!isatty(STDERR_FILENO) || now - run->shown < 0.2)
         return;
     run->shown = now;
-    if (accepted > run->first) {
+    snprintf(share, sizeof share, "%u %%", (unsigned)((uint64_t)accepted * 100 / wanted));
+    snprintf(steps, sizeof steps, "%s of %s steps, %s", GROUPED(accepted), GROUPED(wanted), share);
+    if (accepted > run->first)
         left = (now - run->began) / (accepted - run->first) * (wanted - accepted) + 0.5;
-        if (left < 90)
-            snprintf(rest, sizeof rest, ", about %.0f s left", left);
-        else
-            snprintf(rest, sizeof rest, ", about %.0f min left", left / 60 + 0.5);
-    }
-    snprintf(text, sizeof text, "%s of %s steps, %u %%%s", GROUPED(accepted), GROUPED(wanted),
-             (unsigned)((uint64_t)accepted * 100 / wanted), rest);
-    say_progress(text);
+    else
+        form = 1;
+    snprintf(all, sizeof all, "%s, about %.0f %s left", steps, left < 90 ? left : left / 60 + 0.5,
+             left < 90 ? "s" : "min");
+    while (strlen(forms[form]) > progress_room())
+        form++;
+    say_progress(forms[form]);
 }
 
 /* The first multiple of `every` after a count; far away for never. */
@@ -262,7 +266,7 @@ static enum status end_run(struct run *run, struct ending ending)
     if (run->record.path && status == STATUS_DONE && ending.status != STATUS_UNWRITTEN)
         status = record_end(&run->record, file);
     if (ending.status == STATUS_DONE && status == STATUS_DONE) {
-        tell("%s: %s\n", run->end.path, standing(file).text);
+        tell("%s: %s", run->end.path, standing(file).text);
         return told();
     }
     say("%s: %s", run->end.path, standing(file).text);
@@ -445,7 +449,7 @@ static enum status go(struct run *run)
     const uint8_t *file = run->channel.bytes;
     enum status status = STATUS_DONE;
     if (is_done(run)) {
-        tell("%s: %s (it was there already)\n", run->end.path, standing(file).text);
+        tell("%s: %s (it was there already)", run->end.path, standing(file).text);
         return told();
     }
     if (run->from)

@@ -1,45 +1,89 @@
 #include "say.h"
+#include "text.h"
 
 #include <inttypes.h>
 #include <stdarg.h>
 #include <stdio.h>
 #include <stdlib.h>
 #include <string.h>
+#include <sys/ioctl.h>
+#include <unistd.h>
 
-static size_t progress_length; /* characters of the progress line that stands on the terminal */
+static size_t progress_length; /* columns of the progress line that stands on the terminal */
+
+size_t progress_room(void)
+{
+    struct winsize size;
+    if (ioctl(STDERR_FILENO, TIOCGWINSZ, &size) == 0 && size.ws_col > 0)
+        return size.ws_col - 1u;
+    return 79;
+}
+
+static size_t least(size_t a, size_t b)
+{
+    return a < b ? a : b;
+}
+
+/* Takes the progress line away; needs no memory. */
+static void end_progress(void)
+{
+    if (progress_length > 0)
+        fprintf(stderr, "\r%*s\r", (int)least(progress_length, progress_room()), "");
+    progress_length = 0;
+}
 
 void say_progress(const char *text)
 {
-    size_t length = strlen(text);
-    if (length == 0 && progress_length == 0)
+    struct text line = {0};
+    size_t columns, before = least(progress_length, progress_room());
+    if (*text == '\0') {
+        end_progress();
         return;
-    fprintf(stderr, "\r%s", text);
-    for (size_t k = length; k < progress_length; k++)
-        fputc(' ', stderr);
-    if (length == 0)
-        fputc('\r', stderr);
-    fflush(stderr);
-    progress_length = length;
+    }
+    text_add(&line, "\r");
+    text_add_seen(&line, text);
+    columns = line.length - 1;
+    if (columns < before)
+        text_add(&line, "%*s", (int)(before - columns), "");
+    fwrite(line.at, 1, line.length, stderr);
+    free(line.at);
+    progress_length = columns;
+}
+
+/* One line, whatever stands in the arguments; what is said to people goes out here and nowhere else. */
+static void put_line(FILE *to, const char *before, const char *format, va_list arguments)
+{
+    struct text words = {0}, line = {0};
+    end_progress();
+    text_add_list(&words, format, arguments);
+    text_add(&line, "%s", before);
+    if (words.length)
+        text_add_seen(&line, words.at);
+    text_add(&line, "\n");
+    fwrite(line.at, 1, line.length, to);
+    free(words.at);
+    free(line.at);
 }
 
 void say(const char *format, ...)
 {
     va_list arguments;
-    say_progress("");
-    fputs("pathpetal: ", stderr);
     va_start(arguments, format);
-    vfprintf(stderr, format, arguments);
+    put_line(stderr, "pathpetal: ", format, arguments);
     va_end(arguments);
-    fputc('\n', stderr);
 }
 
 void tell(const char *format, ...)
 {
     va_list arguments;
-    say_progress("");
     va_start(arguments, format);
-    vprintf(format, arguments);
+    put_line(stdout, "", format, arguments);
     va_end(arguments);
+}
+
+void tell_page(const char *text)
+{
+    fputs(text, stdout);
 }
 
 enum status told(void)
@@ -60,7 +104,8 @@ void *more_room(void *at, size_t count, size_t size)
     if (size != 0 && count <= SIZE_MAX / size)
         room = realloc(at, count * size);
     if (!room) {
-        say("no memory");
+        end_progress();
+        fputs("pathpetal: no memory\n", stderr); /* a message of say would need some */
         exit(STATUS_MEMORY);
     }
     return room;
@@ -120,8 +165,7 @@ struct shown shown(const char *text)
     /* a cut does not fall inside a character of several bytes */
     while (kept < length && kept > 0 && ((unsigned char)text[kept] & 0xC0) == 0x80)
         kept--;
-    for (size_t k = 0; k < kept; k++)
-        out.text[k] = (unsigned char)text[k] < 32 || text[k] == 127 ? '?' : text[k];
+    memcpy(out.text, text, kept);
     if (kept < length)
         memcpy(out.text + kept, "...", 3);
     return out;

@@ -23,15 +23,20 @@ enum status {
     STATUS_INTERRUPTED = 6 /* a signal ended the run: END holds what was accepted and says open */
 };
 
-/* One line on standard error, after the program's name. */
+/* One line on standard error, after the program's name. What is formatted may hold names and fields from outside: of
+   every line, here and below, only what text_add_seen lets through reaches a terminal. */
 void say(const char *format, ...) LIKE_PRINTF(1, 2);
 
-/* Text on standard output; told() is whether all of it could be written. */
+/* One line on standard output; a page of the program's own words, with its line ends. told() is whether all of it
+   could be written. */
 void tell(const char *format, ...) LIKE_PRINTF(1, 2);
+void tell_page(const char *text);
 enum status told(void);
 
-/* The progress line on standard error, in place of the one before; an empty text takes it away. */
+/* The progress line on standard error, in place of the one before; an empty text takes it away. It stays one line if
+   it has at most so many columns as progress_room() gives: one less than the terminal's width, 80 if that is unknown. */
 void say_progress(const char *text);
+size_t progress_room(void);
 
 /* Memory, or the end of the program with STATUS_MEMORY. */
 void *room_for(size_t count, size_t size);
@@ -49,7 +54,7 @@ struct grouped grouped(int64_t number);
 struct grouped thousandths(int64_t number);
 #define THOUSANDTHS(number) (thousandths(number).text)
 
-/* Text from elsewhere as it may stand in a message: one line, without control characters, cut with dots at 40. */
+/* Text from elsewhere, cut with dots at 40 bytes. */
 struct shown {
     char text[48];
 };

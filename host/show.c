@@ -26,25 +26,25 @@ static void tell_channel(const char *path, const uint8_t *file)
         if (pathpetal_height_um(file, cell) > pathpetal_height_um(file, high))
             high = cell;
     }
-    tell("%s\n", path);
-    tell("  %s\n", standing(file).text);
-    tell("  time run       %s s of %s s, in steps of %s ms\n",
+    tell("%s", path);
+    tell("  %s", standing(file).text);
+    tell("  time run       %s s of %s s, in steps of %s ms",
          THOUSANDTHS((int64_t)pathpetal_accepted(file) * step_ms),
          THOUSANDTHS((int64_t)pathpetal_wanted(file) * step_ms), GROUPED(step_ms));
-    tell("  channel        %s cells of %s mm: %s m\n", GROUPED(cells), GROUPED(pathpetal_width_mm(file)),
+    tell("  channel        %s cells of %s mm: %s m", GROUPED(cells), GROUPED(pathpetal_width_mm(file)),
          THOUSANDTHS((int64_t)cells * pathpetal_width_mm(file)));
-    tell("  lowest height  %s um (%s mm), first in cell %zu\n", GROUPED(pathpetal_height_um(file, low)),
+    tell("  lowest height  %s um (%s mm), first in cell %zu", GROUPED(pathpetal_height_um(file, low)),
          in_mm(pathpetal_height_um(file, low)).text, low + 1);
-    tell("  highest height %s um (%s mm), first in cell %zu\n", GROUPED(pathpetal_height_um(file, high)),
+    tell("  highest height %s um (%s mm), first in cell %zu", GROUPED(pathpetal_height_um(file, high)),
          in_mm(pathpetal_height_um(file, high)).text, high + 1);
-    tell("  water sum      %s um (the heights of all cells added up)\n", GROUPED(water_sum(file)));
+    tell("  water sum      %s um (the heights of all cells added up)", GROUPED(water_sum(file)));
 }
 
 static void tell_staffs(const char *path, const struct staffs *staffs)
 {
-    tell("%s\n", path);
-    tell("  %s\n", staffs_standing(staffs).text);
-    tell("  %s rows, from %s s to %s s\n", GROUPED((int64_t)staffs->rows), THOUSANDTHS(staffs->times[0]),
+    tell("%s", path);
+    tell("  %s", staffs_standing(staffs).text);
+    tell("  %s rows, from %s s to %s s", GROUPED((int64_t)staffs->rows), THOUSANDTHS(staffs->times[0]),
          THOUSANDTHS(staffs->times[staffs->rows - 1]));
     for (size_t k = 0; k < staffs->count; k++) {
         size_t low = 0, high = 0;
@@ -54,7 +54,7 @@ static void tell_staffs(const char *path, const struct staffs *staffs)
             if (staff_height(staffs, row, k) > staff_height(staffs, high, k))
                 high = row;
         }
-        tell("  cell %u: lowest %s um at %s s, highest %s um at %s s\n", (unsigned)staffs->cells[k],
+        tell("  cell %u: lowest %s um at %s s, highest %s um at %s s", (unsigned)staffs->cells[k],
              GROUPED(staff_height(staffs, low, k)), THOUSANDTHS(staffs->times[low]),
              GROUPED(staff_height(staffs, high, k)), THOUSANDTHS(staffs->times[high]));
     }

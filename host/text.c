@@ -59,21 +59,49 @@ static size_t character(const unsigned char *at)
     return more + 1;
 }
 
+/* Whether the character of so many bytes is one to be seen: no control character, nor one that parts lines or turns
+   the direction of what follows it (U+2028 to 202E, U+2066 to 2069). */
+static bool is_seen(const unsigned char *at, size_t bytes)
+{
+    if (bytes == 1)
+        return at[0] >= 32 && at[0] != 127;
+    if (bytes == 2)
+        return at[0] != 0xC2 || at[1] >= 0xA0;
+    if (at[0] == 0xE2 && at[1] == 0x80)
+        return at[2] < 0xA8 || at[2] > 0xAE;
+    if (at[0] == 0xE2 && at[1] == 0x81)
+        return at[2] < 0xA6 || at[2] > 0xA9;
+    return bytes > 0;
+}
+
+/* Adds the character at the start of a text, or '?' in its place; gives the bytes that it takes there. */
+static size_t add_character(struct text *text, const char *from)
+{
+    const unsigned char *at = (const unsigned char *)from;
+    size_t bytes = character(at);
+    if (bytes > 0 && is_seen(at, bytes))
+        text_add_bytes(text, from, bytes);
+    else
+        text_add_bytes(text, "?", 1);
+    return bytes > 0 ? bytes : 1;
+}
+
+void text_add_seen(struct text *text, const char *from)
+{
+    while (*from)
+        from += add_character(text, from);
+}
+
 void text_add_escaped(struct text *text, const char *from)
 {
     while (*from) {
-        size_t bytes = character((const unsigned char *)from);
         switch (*from) {
         case '&': text_add(text, "&amp;"); break;
         case '<': text_add(text, "&lt;"); break;
         case '>': text_add(text, "&gt;"); break;
         case '"': text_add(text, "&quot;"); break;
-        default:
-            if (bytes == 0 || (unsigned char)*from < 32 || *from == 127)
-                text_add(text, "?");
-            else
-                text_add(text, "%.*s", (int)bytes, from);
+        default: from += add_character(text, from); continue;
         }
-        from += bytes == 0 ? 1 : bytes;
+        from++;
     }
 }

@@ -17,7 +17,11 @@ void text_add_list(struct text *text, const char *format, va_list arguments) LIK
 /* Bytes as they are; a zero byte always follows what was added. */
 void text_add_bytes(struct text *text, const char *bytes, size_t length);
 
-/* Text from elsewhere, as it may stand in XML: marks escaped, what is no UTF-8 or no character of XML as '?'. */
+/* Text from elsewhere, as it may stand on a terminal: '?' for each control character, for each one that parts lines or
+   turns the direction of text, and for each byte that is no UTF-8. */
+void text_add_seen(struct text *text, const char *from);
+
+/* The same as it may stand in XML, with its marks escaped. */
 void text_add_escaped(struct text *text, const char *from);
 
 #endif
