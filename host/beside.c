@@ -193,6 +193,7 @@ enum status beside_write(struct beside *beside, const struct run_id *run, const 
     struct beside says = {.run = *run, .saved = {*coming}, .count = 1};
     struct text text = {0};
     struct next next;
+    int before = beside->file;
     enum status status = next_begin(beside->path, beside->file, &next);
     if (status != STATUS_DONE)
         return status;
@@ -201,7 +202,7 @@ enum status beside_write(struct beside *beside, const struct run_id *run, const 
     put_beside(&text, &says);
     status = write_all(next.file, text.at, text.length, beside->path);
     status = next_end(beside->path, &beside->file, &next, status);
-    beside->unused = beside->unused && status != STATUS_DONE;
+    beside->unused = beside->unused && beside->file == before;
     free(text.at);
     return status;
 }

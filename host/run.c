@@ -229,11 +229,9 @@ static enum status save_end(struct run *run, bool *holds)
 {
     struct saved now = saved_now(run);
     enum status flushed = run->record.path ? record_flush(&run->record) : STATUS_DONE, status;
-    if (flushed != STATUS_DONE)
-        now.recorded = false;
     if (!run->end.own || !same_hex(&run->end.stands.channel, &now.channel))
         status = save_write(&run->end, &run->id, &run->channel, &now, true);
-    else if (now.recorded && !same_hex(&run->end.stands.sum, &now.sum))
+    else if (now.recorded && !same_hex(&run->end.stands.sum, &now.sum)) /* END is as it was, its record another */
         status = beside_write(&run->end.beside, &run->id, NULL, &now);
     else
         status = STATUS_DONE;

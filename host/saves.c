@@ -69,7 +69,8 @@ enum status save_write(struct save *save, const struct run_id *run, const struct
         return said;
     status = whole_write(save->path, channel->bytes, channel->length, &save->over);
     if (status != STATUS_DONE) {
-        save->beside.unused = !save->own; /* it speaks of nothing that is there, and goes */
+        /* where it speaks of nothing that is there, it goes */
+        save->beside.unused = !save->own && !stands_with(save->path, &coming->channel);
         return status;
     }
     save->own = said == STATUS_DONE;

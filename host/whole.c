@@ -94,8 +94,7 @@ bool sum_start(int file, uint64_t length, struct sum *sum)
     return true;
 }
 
-/* Whether the file that stands at path has these bytes. */
-static bool stands_with(const char *path, const struct hex *wanted)
+bool stands_with(const char *path, const struct hex *wanted)
 {
     struct stat found;
     struct sum sum;

@@ -44,6 +44,9 @@ enum status next_begin(const char *path, int alone, struct next *next);
 /* Flushes what was written to it and gives it the name, if all went well so far: *alone becomes the new file. */
 enum status next_end(const char *path, int *alone, struct next *next, enum status so_far);
 
+/* Whether a file stands at path whose bytes have this sum. */
+bool stands_with(const char *path, const struct hex *sum);
+
 /* Adds `length` bytes of an open file, from its beginning, to a sum; whether they are all there. */
 bool sum_start(int file, uint64_t length, struct sum *sum);
 
