@@ -140,7 +140,6 @@ static bool is_whole(int file)
 
 enum status record_open(struct record *record, const struct run_id *run)
 {
-    struct stat found;
     enum status status = open_alone(record->open_path, &record->file, &record->made);
     if (status != STATUS_DONE)
         return status;
@@ -150,8 +149,11 @@ enum status record_open(struct record *record, const struct run_id *run)
     if (record->named < 0)
         return STATUS_DONE;
     record->named_whole = is_whole(record->named);
-    if (record->made && fstat(record->named, &found) == 0)
-        keep_mode(record->file, &found);
+    if (fstat(record->named, &record->mode) == 0 && record->made) {
+        struct stat work = record->mode;
+        work.st_mode |= 0600; /* a run that goes on must be able to write it */
+        keep_mode(record->file, &work);
+    }
     return STATUS_DONE;
 }
 
@@ -365,6 +367,8 @@ enum status record_end(struct record *record, const uint8_t *file)
         say("%s: was cut, changed or taken away by another program while this ran", record->open_path);
         status = STATUS_UNWRITTEN;
     }
+    if (record->named >= 0 && tail.complete)
+        keep_mode(record->file, &record->mode);
     /* it is this run's alone until it has its name */
     if (status == STATUS_DONE && tail.complete)
         status = whole_name(record->open_path, record->path, &record->over);

@@ -16,7 +16,8 @@ struct record {
     size_t count;  /* of marked cells */
     struct head head;
     int file;          /* NAME.open, for this run alone; -1 when there is no record */
-    int named;         /* NAME as it stood when the run began, -1 when it was not there */
+    int named;         /* NAME as it stood when the run began, -1 when it was not there, */
+    struct stat mode;  /* and whose mode the new one gets then */
     bool named_whole;  /* its last line says complete, and its sum is right */
     bool made;         /* this run has made NAME.open, */
     bool begun;        /* and has begun to write it */

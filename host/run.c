@@ -244,8 +244,12 @@ static void say_left(const struct run *run, enum status why)
 {
     if (record_left(&run->record))
         say("%s: holds the record so far", run->record.open_path);
-    if (!pathpetal_complete(run->channel.bytes) && why != STATUS_OPEN)
+    if (pathpetal_complete(run->channel.bytes) || why == STATUS_OPEN)
+        return;
+    if (run->end.own)
         say("to go on: give the same command again");
+    else
+        say("to go on: pathpetal run %s, with the same options and other names", run->end.path);
 }
 
 /* Writes END, then ends the record, so that no record says complete without END. */
@@ -259,6 +263,9 @@ static enum status end_run(struct run *run, struct ending ending)
     status = save_end(run, &holds);
     if (!holds) {
         say("END is not written; START is as it was");
+        if (run->checkpoint.own)
+            say("%s holds the first %s steps; to go on from it, give the same command again", run->checkpoint.path,
+                GROUPED(run->checkpoint.stands.step));
         return status;
     }
     if (run->record.path && status == STATUS_DONE && ending.status != STATUS_UNWRITTEN)
