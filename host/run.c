@@ -292,6 +292,8 @@ static enum status prepare(struct run *run, const struct option *options)
         status = pour_read(pour, run->channel.bytes, &run->pour);
     if (status == STATUS_DONE && run->record.path)
         status = record_cells(option_value(options, "--staff"), run->channel.bytes, &run->record);
+    if (status == STATUS_DONE)
+        listen(); /* a signal before this ends the program at once, also where it waits for an input */
     if (status == STATUS_DONE) {
         struct place places[] = {input_place("START", run->start), input_place("POUR", pour),
                                  output_place("END", run->end), output_place("the checkpoint", run->checkpoint),
@@ -320,7 +322,6 @@ enum status run_command(int count, char **words)
     enum status status;
     run->record.file = -1;
     run->record.first = -1;
-    listen();
     status = options_read(count, words, options, &run->start, 1, usage);
     if (status == STATUS_DONE)
         status = take_options(run, options);
