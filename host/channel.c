@@ -31,6 +31,40 @@ enum status channel_bytes(const char *path, struct channel *channel)
     return STATUS_DONE;
 }
 
+/* Whether bytes are text: no control characters but tabs and line ends. */
+static bool is_text(const struct channel *channel)
+{
+    for (size_t k = 0; k < channel->length; k++) {
+        uint8_t byte = channel->bytes[k];
+        if (byte < 32 && byte != '\t' && byte != '\r' && byte != '\n')
+            return false;
+    }
+    return true;
+}
+
+/* Whether a text holds another. */
+static bool holds(const struct channel *channel, const char *what)
+{
+    size_t length = strlen(what);
+    for (size_t k = 0; k + length <= channel->length; k++)
+        if (memcmp(channel->bytes + k, what, length) == 0)
+            return true;
+    return false;
+}
+
+/* What to do about a file that is no channel, by what it is. */
+static const char *other_file(const struct channel *channel)
+{
+    const char record[] = "step,time_s";
+    size_t mark = channel->length >= 3 && memcmp(channel->bytes, "\xEF\xBB\xBF", 3) == 0 ? 3 : 0;
+    if (channel->length >= mark + strlen(record) && memcmp(channel->bytes + mark, record, strlen(record)) == 0)
+        return "this is a staff record, not a channel; pathpetal show --staff shows it";
+    if (is_text(channel) &&
+        (holds(channel, ",") || holds(channel, ";") || holds(channel, "\t") || holds(channel, "depth_mm")))
+        return "this is a table, not a channel; pathpetal make makes a channel from a survey";
+    return "take a fresh copy of the file, or make it again from its survey";
+}
+
 enum status channel_read(const char *path, struct channel *channel)
 {
     unsigned number;
@@ -40,7 +74,7 @@ enum status channel_read(const char *path, struct channel *channel)
     number = pathpetal_number(pathpetal_check(channel->bytes, channel->length));
     if (number != PATHPETAL_DONE) {
         say("%s: refused, number %u: %s", path, number, refusal_words(number));
-        say("to mend: take a fresh copy of the file, or make it again from its survey");
+        say("to mend: %s", other_file(channel));
         return STATUS_REFUSED;
     }
     return STATUS_DONE;

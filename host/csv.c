@@ -307,6 +307,19 @@ static enum status take_names(struct csv *csv)
     return STATUS_DONE;
 }
 
+/* Refuses a channel file, which is easily named in the place of a table. */
+static enum status no_channel(struct csv *csv)
+{
+    enum status status = STATUS_DONE;
+    while (status == STATUS_DONE && csv->length < 4 && !csv->ended)
+        status = read_on(csv);
+    csv->channel = csv->length >= 4 && memcmp(csv->text, "\1\0\0\0", 4) == 0;
+    if (status != STATUS_DONE || !csv->channel)
+        return status;
+    say("%s: is a channel file and no table", csv->path);
+    return STATUS_REFUSED;
+}
+
 enum status csv_open_each(struct csv *csv, const char *path, void (*each)(void *to, const char *line, size_t length),
                           void *to)
 {
@@ -319,7 +332,9 @@ enum status csv_open_each(struct csv *csv, const char *path, void (*each)(void *
     }
     csv->text_room = ROOM_FIRST;
     csv->text = room_for(csv->text_room, 1);
-    status = next_line(csv, &more);
+    status = no_channel(csv);
+    if (status == STATUS_DONE)
+        status = next_line(csv, &more);
     if (status != STATUS_DONE)
         return status;
     if (!more) {

@@ -86,6 +86,8 @@ enum status staffs_read(const char *path, struct staffs *staffs)
     enum status status;
     *staffs = (struct staffs){.count = 0};
     status = csv_open(&csv, path);
+    if (csv.channel)
+        say("to mend: leave out --staff to show a channel file");
     if (status == STATUS_DONE)
         status = take_columns(&csv, staffs);
     while (status == STATUS_DONE) {
