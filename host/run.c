@@ -206,7 +206,8 @@ static void say_ending(const struct run *run, const struct ending *ending)
     else
         say("step %s of %s was refused %s (number %u, stage %u): %s", GROUPED(step), GROUPED(wanted),
             stage_words(ending->stage).text, ending->number, ending->stage, refusal_words(ending->number));
-    say("to mend: %s", refusal_mend(ending->number));
+    /* a filter pass meets what was poured into the step before it */
+    say_mend(file, ending->number, pours_into(&run->pour, ending->in_filter ? step - 1 : step));
 }
 
 /* Writes END, then ends the record, so that no record says complete without END. */
