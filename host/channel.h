@@ -36,9 +36,13 @@ enum status channel_bytes(const char *path, struct channel *channel);
 /* Reads a channel file that the library takes; else says why it is refused. */
 enum status channel_read(const char *path, struct channel *channel);
 
-/* What a refusal says, and what to mend in a survey or in a run; never NULL. */
+/* What a refusal says, and what to mend in a survey; never NULL. */
 const char *refusal_words(unsigned number);
 const char *refusal_mend(unsigned number);
+
+/* Says what to mend in a run whose step or filter pass was refused: the time step first, where it is longer than
+   docs/CHOOSING.md advises; `poured` is whether water was poured into the step. */
+void say_mend(const uint8_t *file, unsigned number, bool poured);
 
 /* Where in a step: "in its prediction or before it", "in its correction 3". */
 struct shown stage_words(unsigned stage);

@@ -156,6 +156,12 @@ static enum status begin_line(struct csv *csv, bool *more)
     return status;
 }
 
+static enum status old_ends(const struct csv *csv)
+{
+    return csv_wrong(csv, -1, "a carriage return stands inside the line; save the table with line ends of Unix or "
+                              "Windows");
+}
+
 /* Reads on until the line is whole: *length becomes its bytes without its end. */
 static enum status whole_line(struct csv *csv, size_t *length)
 {
@@ -168,6 +174,8 @@ static enum status whole_line(struct csv *csv, size_t *length)
         *length = end ? (size_t)(end - line) : there;
         if (memchr(line + seen, '\0', *length - seen))
             return csv_wrong(csv, -1, "is no plain text: it holds a zero byte; save the table as CSV in UTF-8");
+        if (*length > LINE_MOST && memchr(line, '\r', *length))
+            return old_ends(csv);
         if (*length > LINE_MOST)
             return csv_wrong(csv, -1, "is longer than %s bytes; a table has a line for each row", GROUPED(LINE_MOST));
         csv->cut = !end && csv->ended;
@@ -200,6 +208,55 @@ static enum status take_line(struct csv *csv, char **line)
     return STATUS_DONE;
 }
 
+static enum status parted_by(const struct csv *csv, char mark)
+{
+    if (mark == '\t')
+        return csv_wrong(csv, -1, "columns are parted by tabs; save the table with commas");
+    return csv_wrong(csv, -1, "columns are parted by '%c'; save the table with commas", mark);
+}
+
+/* The mark that a first line like sep=; or "sep=;" names, which Excel reads and hides; '\0' if the line is another. */
+static char named_mark(const char *line)
+{
+    size_t quote = *line == '"' ? 1 : 0;
+    const char *name = "sep=";
+    if (strlen(line) != 5 + 2 * quote || (quote && line[6] != '"'))
+        return '\0';
+    for (line += quote; *name && small(*line) == *name; line++)
+        name++;
+    return *name ? '\0' : *line;
+}
+
+/* The mark that parts column names where no comma does: ';' or a tab between them; '\0' if there is none. */
+static char other_mark(const char *line)
+{
+    const char *end = line + strlen(line);
+    bool in_quotes = false;
+    char mark = '\0';
+    while (end > line && is_space(end[-1]))
+        end--;
+    for (line += strspn(line, " \t"); line < end; line++) {
+        if (*line == '"')
+            in_quotes = !in_quotes;
+        if (*line == ',' && !in_quotes)
+            return '\0';
+        if (mark == '\0' && (*line == ';' || *line == '\t'))
+            mark = *line;
+    }
+    return mark;
+}
+
+/* Refuses fields that something else than a comma parts, by a first line that names it or by the column names;
+   *passed is whether the line is such a first line that names the comma. */
+static enum status look_at_marks(const struct csv *csv, const char *line, bool *passed)
+{
+    char named = csv->line == 1 ? named_mark(line) : '\0', mark = csv->names ? '\0' : other_mark(line);
+    *passed = named == ',';
+    if (named != '\0' && named != ',')
+        return parted_by(csv, named);
+    return mark != '\0' ? parted_by(csv, mark) : STATUS_DONE;
+}
+
 static void set_remark(struct csv *csv, const char *line)
 {
     free(csv->remark);
@@ -211,24 +268,26 @@ static enum status next_line(struct csv *csv, bool *more)
 {
     for (;;) {
         char *line = NULL, *first;
+        bool passed = false;
         enum status status = begin_line(csv, more);
         if (status != STATUS_DONE || !*more)
             return status;
         status = take_line(csv, &line);
         if (status != STATUS_DONE)
             return status;
+        if (strchr(line, '\r'))
+            return old_ends(csv);
         first = line + strspn(line, " \t");
         if (*first == '#')
             set_remark(csv, first);
         if (*first == '#' || *first == '\0')
             continue;
-        if (strchr(line, '\r'))
-            return csv_wrong(csv, -1, "a carriage return stands inside the line; save the table with line ends of "
-                                      "Unix or Windows");
-        status = cut_fields(csv, line);
+        status = look_at_marks(csv, line, &passed);
+        if (status == STATUS_DONE && !passed)
+            status = cut_fields(csv, line);
         if (status != STATUS_DONE)
             return status;
-        if (all_empty(csv))
+        if (passed || all_empty(csv))
             continue;
         set_remark(csv, NULL);
         return STATUS_DONE;
@@ -241,13 +300,24 @@ static enum status take_names(struct csv *csv)
     csv->names = room_for(csv->count, sizeof *csv->names);
     for (; csv->columns < csv->count; csv->columns++)
         csv->names[csv->columns] = joined(csv->fields[csv->columns], "");
-    if (csv->columns == 1 && strchr(csv->names[0], ';'))
-        return csv_wrong(csv, -1, "columns are parted by ';'; save the table with commas");
     for (size_t k = 0; k < csv->columns; k++)
         for (size_t j = 0; j < k; j++)
             if (csv->names[k][0] != '\0' && same_name(csv->names[j], csv->names[k]))
                 return csv_wrong(csv, (long)k, "this name stands over column %zu too", j + 1);
     return STATUS_DONE;
+}
+
+/* Refuses a channel file, which is easily named in the place of a table. */
+static enum status no_channel(struct csv *csv)
+{
+    enum status status = STATUS_DONE;
+    while (status == STATUS_DONE && csv->length < 4 && !csv->ended)
+        status = read_on(csv);
+    csv->channel = csv->length >= 4 && memcmp(csv->text, "\1\0\0\0", 4) == 0;
+    if (status != STATUS_DONE || !csv->channel)
+        return status;
+    say("%s: is a channel file and no table", csv->path);
+    return STATUS_REFUSED;
 }
 
 enum status csv_open_each(struct csv *csv, const char *path, void (*each)(void *to, const char *line, size_t length),
@@ -262,7 +332,9 @@ enum status csv_open_each(struct csv *csv, const char *path, void (*each)(void *
     }
     csv->text_room = ROOM_FIRST;
     csv->text = room_for(csv->text_room, 1);
-    status = next_line(csv, &more);
+    status = no_channel(csv);
+    if (status == STATUS_DONE)
+        status = next_line(csv, &more);
     if (status != STATUS_DONE)
         return status;
     if (!more) {

@@ -15,6 +15,7 @@ struct csv {
     char *text;                   /* the line at hand, out of which fields are cut, and what was read beyond it */
     size_t length, at, text_room; /* its bytes, where the next line begins in it, and its room */
     bool ended;                   /* nothing more can be read */
+    bool channel;                 /* it is no table but begins as channel files do */
     bool cut;                     /* the line at hand has no end: it is the last */
     unsigned long line;           /* of the row at hand, from 1 */
     char **fields;                /* of the row at hand */

@@ -121,6 +121,14 @@ uint32_t pour_step(const struct pour *pour)
     return pour->next < pour->count ? pour->list[pour->next].step : 0;
 }
 
+bool pours_into(const struct pour *pour, uint32_t step)
+{
+    for (size_t k = 0; k < pour->count; k++)
+        if (pour->list[k].step == step && pour->list[k].amount != 0)
+            return true;
+    return false;
+}
+
 void pour_row(struct pour *pour, uint8_t *row, size_t cells)
 {
     uint32_t step = pour_step(pour);

@@ -32,6 +32,9 @@ void pour_from(struct pour *pour, uint32_t accepted);
 /* The next step into which water is poured; 0 if there is none. */
 uint32_t pour_step(const struct pour *pour);
 
+/* Whether water is poured into a step. */
+bool pours_into(const struct pour *pour, uint32_t step);
+
 /* Fills the row for that step, and goes on to the next. */
 void pour_row(struct pour *pour, uint8_t *row, size_t cells);
 

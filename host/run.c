@@ -221,7 +221,8 @@ static void say_ending(const struct run *run, const struct ending *ending)
     else
         say("step %s of %s was refused %s (number %u, stage %u): %s", GROUPED(step), GROUPED(wanted),
             stage_words(ending->stage).text, ending->number, ending->stage, refusal_words(ending->number));
-    say("to mend: %s", refusal_mend(ending->number));
+    /* a filter pass meets what was poured into the step before it */
+    say_mend(file, ending->number, pours_into(&run->pour, ending->in_filter ? step - 1 : step));
 }
 
 /* Writes END, unless it stands there already; *holds is whether it then holds the channel at hand. */
@@ -433,12 +434,11 @@ static enum status prepare(struct run *run, const struct option *options)
     if (status == STATUS_DONE && run->record.path)
         status = record_cells(option_value(options, "--staff"), run->channel.bytes, &run->record);
     if (status == STATUS_DONE)
+        listen(); /* a signal before this ends the program at once, also where it waits for an input */
+    if (status == STATUS_DONE)
         status = look_at_places(run, pour);
     if (status == STATUS_DONE)
         status = know_start(run);
-    /* all is read that may be waited for: from here on a signal ends the run in good order */
-    if (status == STATUS_DONE)
-        listen();
     if (status == STATUS_DONE)
         status = save_hold(&run->end, &run->id, run->replace);
     if (status == STATUS_DONE && run->checkpoint.path)

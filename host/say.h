@@ -33,8 +33,8 @@ void tell(const char *format, ...) LIKE_PRINTF(1, 2);
 void tell_page(const char *text);
 enum status told(void);
 
-/* The progress line on standard error, in place of the one before; an empty text takes it away. It stays one line if
-   it has at most so many columns as progress_room() gives: one less than the terminal's width, 80 if that is unknown. */
+/* The progress line on standard error, in place of the one before; an empty text takes it away. It is not wrapped if
+   it has at most progress_room() columns: one less than the terminal's width, or than 80 if that cannot be told. */
 void say_progress(const char *text);
 size_t progress_room(void);
 

@@ -124,6 +124,8 @@ enum status staffs_read(const char *path, struct staffs *staffs)
     *staffs = (struct staffs){.count = 0};
     sum_begin(&lines.sum);
     status = csv_open_each(&csv, path, take_line, &lines);
+    if (csv.channel)
+        say("to mend: leave out --staff to show a channel file");
     if (status == STATUS_DONE)
         status = take_columns(&csv, staffs);
     while (status == STATUS_DONE) {
