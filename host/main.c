@@ -21,8 +21,9 @@ static const char overall_help[] =
     "  pathpetal check FILE ...                 whether a channel or a staff record is whole, and complete\n"
     "  pathpetal COMMAND --help                 more of a command\n"
     "\n"
-    "No command changes or removes a file that it reads. A file that is there is written over only\n"
-    "with --replace, and every file appears under its name only when it is whole.\n" STATUSES;
+    "No command changes or removes a file that it is given to read. A file of another run is written\n"
+    "over only with --replace, and every file appears under its name only when it is whole. A run that\n"
+    "was cut goes on when the same command is given again.\n" STATUSES;
 
 static const char make_help[] =
     "pathpetal make SURVEY.csv -o START --width-mm MM --step-ms MS --steps N [--replace]\n"
@@ -42,8 +43,9 @@ static const char make_help[] =
 static const char run_help[] =
     "pathpetal run START -o END [options]\n"
     "\n"
-    "Takes the steps that START still wants and writes END. START may be new, a checkpoint, or an END\n"
-    "that says open: with the same options the numbers are those of one run in one go.\n"
+    "Takes the steps that START still wants and writes END. A run that was cut goes on when the same\n"
+    "command is given again, and ends in the same bytes as one in one go. START may also be a\n"
+    "checkpoint, or an END that says open, with the same options and other names for END and FILE.\n"
     "\n"
     "  --filter-every N       a filter pass after every N accepted steps, before the next step\n"
     "  --pour POUR.csv        water poured in; columns step, cell, amount_um\n"
@@ -52,10 +54,12 @@ static const char run_help[] =
     "  --every N              a row of the record every N accepted steps (1 if left out)\n"
     "  --checkpoint FILE      keep the channel in FILE on the way ...\n"
     "  --checkpoint-every N   ... every N accepted steps\n"
-    "  --replace              write over END, RECORD.csv and the checkpoint if they are there\n"
+    "  --replace              write over END, RECORD.csv and the checkpoint also where they are of\n"
+    "                         another run\n"
     "\n"
-    "Ctrl-C, SIGTERM and SIGHUP end the run in good order: END then says open and can be gone on\n"
-    "with. Progress is shown where standard error is a terminal.\n" STATUSES;
+    "END.run and FILE.run stand beside END and the checkpoint and say of which run they are: keep them\n"
+    "together. Ctrl-C, SIGTERM and SIGHUP end the run in good order: END then says open. Progress is\n"
+    "shown where standard error is a terminal.\n" STATUSES;
 
 static const char show_help[] =
     "pathpetal show FILE [--svg PICTURE.svg] [--replace]\n"
