@@ -65,7 +65,8 @@ bool same_options(const struct run_id *there, const struct run_id *here, struct 
     }
     if (!same_hex(&there->pour, &here->pour)) {
         bool none_there = strcmp(there->pour.text, "none") == 0, none_here = strcmp(here->pour.text, "none") == 0;
-        add_how(how, "--pour", none_there ? "none" : "a table", none_here ? "none" : none_there ? "a table" : "another");
+        add_how(how, "--pour", none_there ? "none" : "a table",
+                none_here ? "none" : none_there ? "a table" : "another");
         same = false;
     }
     return same;

@@ -95,8 +95,7 @@ static const struct {
                          "make that cell deeper, or the waves lower"},
     [PATHPETAL_DOMINANCE] = {"the bottom is too steep for cells this narrow", "take wider cells, or smooth the bottom"},
     [PATHPETAL_PIVOT] = {"the velocities cannot be worked out", "keep the file and tell who looks after the program"},
-    [PATHPETAL_SPEED] = {"the water became faster than 20 m/s", "take lower velocities, lower waves or a shorter time "
-                                                                "step"},
+    [PATHPETAL_SPEED] = {"the water became faster than 20 m/s", "take lower velocities"},
     [PATHPETAL_HEIGHT] = {"the water rose or fell by more than 20 m", "take a shorter time step, wider cells, a filter "
                                                                       "pass more often, or pour less"},
     [PATHPETAL_FLUX] = {"more water goes through a face than the file can hold",

@@ -41,8 +41,8 @@ uint32_t record_first(const struct record *record, const uint8_t *file);
 /* Whether the rows that a saved channel has behind it are there, as it was saved with them; they are kept then. */
 bool record_find(struct record *record, const struct saved *saved);
 
-/* The same for a channel that begins the record, or goes on with one whose rows are lost: nothing is kept. Refused, with
-   what is different, where NAME.open is of another run, or holds rows of this one that are not known to be the
+/* The same for a channel that begins the record, or goes on with one whose rows are lost: nothing is kept. Refused,
+   with what is different, where NAME.open is of another run, or holds rows of this one that are not known to be the
    channel's. `replace` lets a run that begins write over it. */
 enum status record_anew(struct record *record, const uint8_t *file, bool replace);
 

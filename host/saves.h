@@ -1,4 +1,5 @@
-/* saves.h: the channels that a run saves, END and the checkpoint, and what the same run left of them when it was cut. */
+/* saves.h: the channels that a run saves, END and the checkpoint, and what the same run has left of them when it was
+   cut. */
 #ifndef SAVES_H
 #define SAVES_H
 

@@ -20,7 +20,7 @@ int64_t staff_height(const struct staffs *staffs, size_t row, size_t staff)
 static uint32_t cell_of(const char *name)
 {
     uint32_t cell = 0;
-    if (strncmp(name, "cell_", 5) != 0)
+    if (strncmp(name, "cell_", 5) != 0 || name[5] == '0')
         return 0;
     for (name += 5; *name >= '0' && *name <= '9' && cell <= CELLS_MOST; name++)
         cell = cell * 10 + (uint32_t)(*name - '0');
