@@ -229,14 +229,14 @@ static void say_ending(const struct run *run, const struct ending *ending)
 static enum status save_end(struct run *run, bool *holds)
 {
     struct saved now = saved_now(run);
-    enum status flushed = run->record.path ? record_flush(&run->record) : STATUS_DONE, status;
-    if (!run->end.own || !same_hex(&run->end.stands.channel, &now.channel))
+    enum status flushed = run->record.path ? record_flush(&run->record) : STATUS_DONE, status = STATUS_DONE;
+    bool stands = run->end.own && same_hex(&run->end.stands.channel, &now.channel) &&
+                  stands_with(run->end.path, &now.channel);
+    if (!stands)
         status = save_write(&run->end, &run->id, &run->channel, &now, true);
-    else if (now.recorded && !same_hex(&run->end.stands.sum, &now.sum)) /* END is as it was, its record another */
+    else if (now.recorded && !same_hex(&run->end.stands.sum, &now.sum)) /* its record has come to be another */
         status = beside_write(&run->end.beside, &run->id, NULL, &now);
-    else
-        status = STATUS_DONE;
-    *holds = same_hex(&run->end.stands.channel, &now.channel);
+    *holds = stands || status == STATUS_DONE || stands_with(run->end.path, &now.channel);
     return status == STATUS_DONE ? flushed : status;
 }
 
