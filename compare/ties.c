@@ -98,15 +98,25 @@ static double real_u(const struct work *k, size_t j)
     return in_halves && twice[j] % 2 ? (double)twice[j] / 2 : 0;
 }
 
+/* The float next to a half on the side of zero. */
+static double nearer_zero(double half)
+{
+    uint64_t bits;
+    memcpy(&bits, &half, sizeof bits);
+    bits--;
+    memcpy(&half, &bits, sizeof half);
+    return half;
+}
+
 static double float_at(enum place place, double v, const struct work *k, size_t j, const int64_t *u)
 {
     double real = place == DISPERSIVE ? real_dispersive(k, j, u) : place == SOLVED_u ? real_u(k, j) : real_V(k, j, u);
-    double half = fabs(v - trunc(v)) == 0.5 ? v : real;
+    double half = fabs(v - (double)(int64_t)v) == 0.5 ? v : real;
     assert(real == 0 || fabs(v - real) <= 0.5);
     int near = v == half ? IS_HALF : fabs(v) < fabs(half) ? SMALLER : LARGER;
     if (half == 0 || !met(place, near, half < 0, (int64_t)half % 2 != 0))
         return v;
-    return near == SMALLER ? half : nextafter(half, 0);
+    return near == SMALLER ? half : nearer_zero(half);
 }
 
 bool predicted_levels(const struct second_channel *channel, struct second_read_row s, int64_t *Q, int64_t *F)

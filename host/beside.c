@@ -1,3 +1,4 @@
+#define _XOPEN_SOURCE 700 /* realpath */
 #include "beside.h"
 #include "whole.h"
 
@@ -150,16 +151,19 @@ static enum status take_open(struct beside *beside, int file)
     return STATUS_DONE;
 }
 
-static void beside_name(const char *channel, struct beside *beside)
+char *beside_path(const char *channel)
 {
-    *beside = (struct beside){.path = joined(channel, ".run"), .file = -1};
+    char *itself = realpath(channel, NULL), *path;
+    path = joined(itself ? itself : channel, ".run");
+    free(itself);
+    return path;
 }
 
 enum status beside_read(const char *channel, struct beside *beside)
 {
     enum status status;
     int file;
-    beside_name(channel, beside);
+    *beside = (struct beside){.path = beside_path(channel), .file = -1};
     file = open(beside->path, O_RDONLY | O_NONBLOCK | O_CLOEXEC);
     if (file < 0 && (errno == ENOENT || errno == ENOTDIR || errno == ENAMETOOLONG || errno == ENXIO))
         return STATUS_DONE;
@@ -175,7 +179,7 @@ enum status beside_read(const char *channel, struct beside *beside)
 enum status beside_hold(const char *channel, struct beside *beside)
 {
     enum status status;
-    beside_name(channel, beside);
+    *beside = (struct beside){.path = joined(channel, ".run"), .file = -1};
     status = open_alone(beside->path, &beside->file, &beside->unused);
     return status == STATUS_DONE ? take_open(beside, beside->file) : status;
 }

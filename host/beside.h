@@ -48,6 +48,9 @@ void put_run(struct text *text, const char *mark, const struct run_id *run);
 bool same_options(const struct run_id *there, const struct run_id *here, struct text *how);
 bool same_run(const struct run_id *there, const struct run_id *here, struct text *how);
 
+/* Where it stands, for a channel that is read: beside the file itself, also where a link names it. */
+char *beside_path(const char *channel);
+
 /* Reads what stands beside a channel; nothing there is nothing known. */
 enum status beside_read(const char *channel, struct beside *beside);
 

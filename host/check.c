@@ -28,7 +28,7 @@ static enum status check_channel(const char *path, bool must)
 static enum status check_record(const char *path, bool must)
 {
     struct staffs staffs;
-    enum status status = staffs_read(path, &staffs);
+    enum status status = staffs_read(path, &staffs, false);
     if (status == STATUS_DONE && (staffs.whole == RECORD_CHANGED || staffs.whole == RECORD_OLD)) {
         say("%s: %s", path, staffs_standing(&staffs).text);
         status = STATUS_REFUSED;

@@ -294,17 +294,46 @@ static enum status next_line(struct csv *csv, bool *more)
     }
 }
 
+/* A column's name, and where it stands. */
+struct named {
+    const char *name;
+    size_t column;
+};
+
+static int by_name(const void *left, const void *right)
+{
+    const struct named *a = left, *b = right;
+    const char *x = a->name, *y = b->name;
+    for (; *x && small(*x) == small(*y); x++)
+        y++;
+    if (small(*x) != small(*y))
+        return (unsigned char)small(*x) < (unsigned char)small(*y) ? -1 : 1;
+    return a->column < b->column ? -1 : a->column > b->column;
+}
+
+/* Whether no two columns have one name; those without a name do not count. */
+static enum status names_differ(const struct csv *csv)
+{
+    struct named *list = room_for(csv->columns, sizeof *list);
+    enum status status = STATUS_DONE;
+    for (size_t k = 0; k < csv->columns; k++)
+        list[k] = (struct named){.name = csv->names[k], .column = k};
+    qsort(list, csv->columns, sizeof *list, by_name);
+    for (size_t k = 1; k < csv->columns && status == STATUS_DONE; k++)
+        if (list[k].name[0] != '\0' && same_name(list[k - 1].name, list[k].name))
+            status = csv_wrong(csv, (long)list[k].column, "this name stands over column %zu too",
+                               list[k - 1].column + 1);
+    free(list);
+    return status;
+}
+
 /* Keeps the fields of the line at hand as the column names. */
 static enum status take_names(struct csv *csv)
 {
     csv->names = room_for(csv->count, sizeof *csv->names);
     for (; csv->columns < csv->count; csv->columns++)
         csv->names[csv->columns] = joined(csv->fields[csv->columns], "");
-    for (size_t k = 0; k < csv->columns; k++)
-        for (size_t j = 0; j < k; j++)
-            if (csv->names[k][0] != '\0' && same_name(csv->names[j], csv->names[k]))
-                return csv_wrong(csv, (long)k, "this name stands over column %zu too", j + 1);
-    return STATUS_DONE;
+    return names_differ(csv);
 }
 
 /* Refuses a channel file, which is easily named in the place of a table. */

@@ -19,6 +19,15 @@ void put_head(struct text *text, const struct head *head)
     text_add(text, "# every %" PRIu32 " from step %" PRIu32 "\n", head->every, head->first);
 }
 
+/* Whether a head's numbers are such as a run has; its filter passes are not taken yet. */
+static bool in_bounds(const struct head *head)
+{
+    return strlen(head->run.origin.text) == 64 &&
+           (strcmp(head->run.pour.text, "none") == 0 || strspn(head->run.pour.text, "0123456789abcdef") == 64) &&
+           head->every >= 1 && head->every <= STEPS_MOST && head->first <= STEPS_MOST &&
+           head->first % head->every == 0 && head->run.origin_step <= head->first;
+}
+
 /* Like the last line and what stands beside a channel, a head is one of ours only if putting it together again gives
    the same bytes. */
 size_t take_head(const char *lines, struct head *head)
@@ -29,7 +38,7 @@ size_t take_head(const char *lines, struct head *head)
     *head = (struct head){.every = 0};
     if (sscanf(lines, "# origin %64[0-9a-f] at step %7" SCNu32 " # filter-every %15s # pour %64s # every %7" SCNu32
                " from step %7" SCNu32, head->run.origin.text, &head->run.origin_step, every, head->run.pour.text,
-               &head->every, &head->first) != 6 || head->every == 0)
+               &head->every, &head->first) != 6 || !in_bounds(head))
         return 0;
     head->run.filter_every = (uint32_t)strtoul(every, NULL, 10); /* "none" is 0 */
     put_head(&again, head);

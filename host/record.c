@@ -145,15 +145,9 @@ enum status record_open(struct record *record, const struct run_id *run)
         return status;
     record->head.run = *run;
     record->line = room_for(record->count + 2, FIELD_ROOM);
+    record->there = lstat(record->path, &record->mode) == 0;
     record->named = open(record->path, O_RDONLY | O_NOFOLLOW | O_CLOEXEC);
-    if (record->named < 0)
-        return STATUS_DONE;
-    record->named_whole = is_whole(record->named);
-    if (fstat(record->named, &record->mode) == 0 && record->made) {
-        struct stat work = record->mode;
-        work.st_mode |= 0600; /* a run that goes on must be able to write it */
-        keep_mode(record->file, &work);
-    }
+    record->named_whole = record->named >= 0 && is_whole(record->named);
     return STATUS_DONE;
 }
 
@@ -163,33 +157,47 @@ uint32_t record_first(const struct record *record, const uint8_t *file)
     return (pathpetal_accepted(file) + every - 1) / every * every;
 }
 
-bool record_find(struct record *record, const struct saved *saved)
+/* Whether a file begins as the record did that a channel was saved with; its sum is then at hand. */
+static bool begins_saved(struct record *record, int file, const struct saved *saved)
 {
-    const int files[] = {record->file, record->named};
-    /* the row of the channel's own count may lack: it could not be written */
-    if (!saved->recorded || saved->first + (uint64_t)saved->rows * record->head.every < saved->step)
-        return false;
+    struct hex hex;
     record->head.first = saved->first;
-    for (size_t k = 0; k < 2; k++) {
-        struct hex hex;
-        if (files[k] < 0 || !begins_own(record, files[k], false) ||
-            !sum_start(files[k], saved->length, &record->sum))
-            continue;
-        /* rows of NAME are written to NAME.open, which must then hold nothing that is not this run's own */
-        if (k == 1 && !begins_own(record, record->file, true) && !begins_own(record, record->file, false))
-            continue;
-        hex = sum_hex(&record->sum);
-        if (same_hex(&hex, &saved->sum)) {
-            record->found = files[k];
-            record->rows = saved->rows;
-            return true;
-        }
-    }
-    return false;
+    if (file < 0 || !begins_own(record, file, false) || !sum_start(file, saved->length, &record->sum))
+        return false;
+    hex = sum_hex(&record->sum);
+    return same_hex(&hex, &saved->sum);
 }
 
-/* What makes NAME.open none that this run can go on with. */
-static struct text what_differs(const struct record *record, const uint8_t *file)
+/* Whether NAME.open is empty, or has this run's head or a part of it. */
+static bool open_is_own(const struct record *record)
+{
+    return begins_own(record, record->file, true) || begins_own(record, record->file, false);
+}
+
+bool record_done(struct record *record, const struct saved *saved)
+{
+    if (!record->named_whole || !saved->recorded || !begins_saved(record, record->named, saved))
+        return false;
+    record->over_open = !record->made && open_is_own(record);
+    return true;
+}
+
+bool record_find(struct record *record, const struct saved *saved)
+{
+    uint64_t next = saved->first + (uint64_t)saved->rows * record->head.every; /* the step of the row to come */
+    /* the row of the channel's own count may lack: it could not be written */
+    if (!saved->recorded || next < saved->step || next > (uint64_t)saved->step + record->head.every)
+        return false;
+    record->found = begins_saved(record, record->file, saved) ? record->file : -1;
+    /* rows of NAME are written to NAME.open, which must then hold nothing that is not this run's own */
+    if (record->found < 0 && begins_saved(record, record->named, saved) && open_is_own(record))
+        record->found = record->named;
+    record->rows = saved->rows;
+    return record->found >= 0;
+}
+
+/* What makes NAME.open none that this run can go on with; *same is whether it is of this run all the same. */
+static struct text what_differs(const struct record *record, const uint8_t *file, bool *same)
 {
     struct text how = {0}, names = {0};
     struct head head;
@@ -197,15 +205,22 @@ static struct text what_differs(const struct record *record, const uint8_t *file
     put_names(&names, record->cells, record->count);
     bytes = room_for(names.length + HEAD_ROOM + 1, 1);
     bytes[read_at(record->file, 0, bytes, names.length + HEAD_ROOM)] = '\0';
-    if (strncmp(bytes, names.at, names.length) != 0)
+    *same = false;
+    if (strncmp(bytes, names.at, names.length) != 0) {
         text_add(&how, "its columns are not those of this run's staffs");
-    else if (take_head(bytes + names.length, &head) == 0)
+    } else if (take_head(bytes + names.length, &head) == 0) {
         text_add(&how, "it does not say of which run it is");
-    else if (same_run(&head.run, &record->head.run, &how) && head.every != record->head.every)
-        text_add(&how, "--every %s there, %s here", GROUPED(head.every), GROUPED(record->head.every));
-    else if (how.length == 0)
-        text_add(&how, "its rows up to step %s are not those that START was saved with: some are lost or changed",
-                 GROUPED(pathpetal_accepted(file)));
+    } else if (same_run(&head.run, &record->head.run, &how)) {
+        *same = head.every == record->head.every;
+        if (!*same)
+            text_add(&how, "--every %s there, %s here", GROUPED(head.every), GROUPED(record->head.every));
+        else if (head.first != record->head.first && pathpetal_accepted(file) <= head.first)
+            text_add(&how, "it begins at step %s, and this run's would at step %s", GROUPED(head.first),
+                     GROUPED(record->head.first));
+        else
+            text_add(&how, "its rows up to step %s are not those that START was saved with: some are lost or changed",
+                     GROUPED(pathpetal_accepted(file)));
+    }
     free(bytes);
     free(names.at);
     return how;
@@ -213,29 +228,39 @@ static struct text what_differs(const struct record *record, const uint8_t *file
 
 enum status record_anew(struct record *record, const uint8_t *file, bool replace)
 {
-    uint32_t accepted = pathpetal_accepted(file);
-    struct text how = {0};
+    uint32_t accepted = pathpetal_accepted(file), wanted = pathpetal_wanted(file);
+    struct text how;
+    bool same;
     record->head.first = record_first(record, file);
     record->found = -1;
     record->rows = 0;
+    if (record->head.first > wanted) {
+        say("--every %s: no step from %s to %s is recorded; take a smaller number", GROUPED(record->head.every),
+            GROUPED(accepted), GROUPED(wanted));
+        return STATUS_REFUSED;
+    }
     if (begins_own(record, record->file, true)) {
         if (accepted > 0)
-            say("%s: the record begins at step %s: no earlier rows are there", record->open_path, GROUPED(accepted));
+            say("%s: the record begins at step %s: no earlier rows are there", record->open_path,
+                GROUPED(record->head.first));
         return STATUS_DONE;
     }
     if (begins_own(record, record->file, false)) {
         say("%s: is left from this same run, which begins again: its rows are written anew from step %s",
-            record->open_path, GROUPED(accepted));
+            record->open_path, GROUPED(record->head.first));
         return STATUS_DONE;
     }
-    how = what_differs(record, file);
-    if (replace && accepted == record->head.run.origin_step) {
+    how = what_differs(record, file, &same);
+    if (replace && accepted == 0) {
         say("%s: is left from another run (%s), and is written over", record->open_path, how.at);
         free(how.at);
         return STATUS_DONE;
     }
     say("%s: %s", record->open_path, how.at);
-    say("it is left from another run: remove it, or record under another name");
+    if (same)
+        say("give the command that this run began with, or record under another name");
+    else
+        say("it is left from another run: remove it, or record under another name");
     free(how.at);
     return STATUS_REFUSED;
 }
@@ -243,7 +268,7 @@ enum status record_anew(struct record *record, const uint8_t *file, bool replace
 enum status record_name_free(struct record *record, bool replace)
 {
     record->over = (struct over){.any = replace};
-    if (record->named < 0 || replace)
+    if (!record->there || replace)
         return STATUS_DONE;
     if (record->named_whole && begins_own(record, record->named, false)) {
         struct sum sum;
@@ -255,16 +280,18 @@ enum status record_name_free(struct record *record, bool replace)
     return STATUS_REFUSED;
 }
 
-/* Copies the rows that are kept from NAME. */
-static enum status copy_named(const struct record *record, int to)
+/* Copies the rows that are kept. */
+static enum status copy_found(const struct record *record, int to)
 {
     char some[65536];
     for (uint64_t at = 0; at < record->sum.length;) {
         uint64_t rest = record->sum.length - at;
-        size_t got = read_at(record->named, at, some, rest < sizeof some ? (size_t)rest : sizeof some);
+        size_t got = read_at(record->found, at, some, rest < sizeof some ? (size_t)rest : sizeof some);
         enum status status;
-        if (got == 0)
-            return cannot(record, "copied");
+        if (got == 0) {
+            say("%s: cannot be written: the rows so far were cut while they were copied", record->open_path);
+            return STATUS_UNWRITTEN;
+        }
         status = write_all(to, some, got, record->open_path);
         if (status != STATUS_DONE)
             return status;
@@ -283,31 +310,20 @@ static enum status write_head(struct record *record, int to)
     return status;
 }
 
-/* Puts a new NAME.open, which begins with its head or with the rows of NAME, in the place of the one at hand: so there
-   is never one with half a head. */
-static enum status renew(struct record *record)
+/* A new NAME.open, with its head or with the rows that are kept, takes the place of the one at hand. So there is never
+   one with half a head, what is kept is on disk even where an earlier flush had failed, and a file that shares its
+   bytes with the old one by a link stays as it is. */
+enum status record_begin(struct record *record, const uint8_t *file)
 {
+    uint32_t accepted = pathpetal_accepted(file);
     struct next next;
     enum status status = next_begin(record->open_path, record->file, &next);
     if (status != STATUS_DONE)
         return status;
-    status = record->found < 0 ? write_head(record, next.file) : copy_named(record, next.file);
-    return next_end(record->open_path, &record->file, &next, status);
-}
-
-/* Cuts NAME.open back to the rows that are kept. */
-static enum status cut_back(const struct record *record)
-{
-    off_t length = (off_t)record->sum.length;
-    if (length_of(record->file) > record->sum.length && ftruncate(record->file, length) != 0)
-        return cannot(record, "cut");
-    return lseek(record->file, length, SEEK_SET) < 0 ? cannot(record, "written") : STATUS_DONE;
-}
-
-enum status record_begin(struct record *record, const uint8_t *file)
-{
-    uint32_t accepted = pathpetal_accepted(file);
-    enum status status = record->found == record->file ? cut_back(record) : renew(record);
+    if (record->there)
+        keep_mode(next.file, &record->mode, 0600); /* a run that goes on must be able to write it */
+    status = record->found < 0 ? write_head(record, next.file) : copy_found(record, next.file);
+    status = next_end(record->open_path, &record->file, &next, status);
     record->begun = status == STATUS_DONE;
     if (status == STATUS_DONE && record_due(record, accepted) &&
         record->head.first + (uint64_t)record->rows * record->head.every == accepted)
@@ -331,16 +347,32 @@ void record_saved(const struct record *record, struct saved *saved)
     saved->first = record->head.first;
 }
 
-/* Whether NAME.open still has its name and the bytes that were written to it, and no others. */
-static bool is_intact(const struct record *record)
+/* Whether NAME.open still has its name and begins with the bytes that were written to it. */
+static bool begins_intact(const struct record *record)
 {
     struct sum sum;
     struct hex there, ours = sum_hex(&record->sum);
-    if (!still_named(record->file, record->open_path) || length_of(record->file) != record->sum.length ||
-        !sum_start(record->file, record->sum.length, &sum))
+    if (!still_named(record->file, record->open_path) || !sum_start(record->file, record->sum.length, &sum))
         return false;
     there = sum_hex(&sum);
     return same_hex(&there, &ours);
+}
+
+/* Gives the record its name. It is this run's alone until it has it. */
+static enum status give_name(const struct record *record)
+{
+    enum status status;
+    if (record->there)
+        keep_mode(record->file, &record->mode, 0);
+    status = whole_name(record->open_path, record->path, &record->over);
+    if (status != STATUS_DONE && record->there)
+        keep_mode(record->file, &record->mode, 0600);
+    if (status == STATUS_DONE &&
+        (!still_named(record->file, record->path) || length_of(record->file) != record->sum.length)) {
+        say("%s: was changed or taken away by another program in the last moment", record->path);
+        status = STATUS_UNWRITTEN;
+    }
+    return status;
 }
 
 enum status record_end(struct record *record, const uint8_t *file)
@@ -362,32 +394,31 @@ enum status record_end(struct record *record, const uint8_t *file)
     free(line.at);
     if (status == STATUS_DONE)
         status = record_flush(record);
-    record->spoilt = !is_intact(record);
+    record->spoilt = !begins_intact(record) || length_of(record->file) != record->sum.length;
     if (status == STATUS_DONE && record->spoilt) {
         say("%s: was cut, changed or taken away by another program while this ran", record->open_path);
         status = STATUS_UNWRITTEN;
     }
-    if (record->named >= 0 && tail.complete)
-        keep_mode(record->file, &record->mode);
-    /* it is this run's alone until it has its name */
     if (status == STATUS_DONE && tail.complete)
-        status = whole_name(record->open_path, record->path, &record->over);
+        status = give_name(record);
     if (close(record->file) != 0 && status == STATUS_DONE)
         status = cannot(record, "closed");
     record->file = -1;
     return status;
 }
 
-bool record_left(const struct record *record)
+enum left record_left(const struct record *record)
 {
     struct stat found;
-    return record->path && !record->spoilt && lstat(record->open_path, &found) == 0 &&
-           (record->file < 0 || still_named(record->file, record->open_path));
+    if (!record->path || lstat(record->open_path, &found) != 0)
+        return LEFT_NONE;
+    return record->spoilt || (record->file >= 0 && !begins_intact(record)) ? LEFT_SPOILT : LEFT_ROWS;
 }
 
 void record_free(struct record *record)
 {
-    if (record->file >= 0 && record->made && !record->begun && still_named(record->file, record->open_path))
+    if (record->file >= 0 && (record->over_open || (record->made && !record->begun)) &&
+        still_named(record->file, record->open_path))
         unlink(record->open_path);
     if (record->file >= 0)
         close(record->file);

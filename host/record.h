@@ -16,12 +16,14 @@ struct record {
     size_t count;  /* of marked cells */
     struct head head;
     int file;          /* NAME.open, for this run alone; -1 when there is no record */
-    int named;         /* NAME as it stood when the run began, -1 when it was not there, */
-    struct stat mode;  /* and whose mode the new one gets then */
+    bool there;        /* NAME stood there when the run began, */
+    struct stat mode;  /* whose mode the new one gets then, */
+    int named;         /* and its contents, -1 where it cannot be read */
     bool named_whole;  /* its last line says complete, and its sum is right */
     bool made;         /* this run has made NAME.open, */
     bool begun;        /* and has begun to write it */
     bool spoilt;       /* another program has changed it since */
+    bool over_open;    /* NAME.open is of no more use: NAME is whole */
     struct over over;  /* what of NAME may be written over */
     int found;         /* where the rows are that are kept: one of the two files, -1 for no rows */
     struct sum sum;    /* of the bytes that are kept or written */
@@ -38,12 +40,15 @@ enum status record_open(struct record *record, const struct run_id *run);
 /* The step of the first row of a record that begins with a channel. */
 uint32_t record_first(const struct record *record, const uint8_t *file);
 
+/* Whether NAME is whole, and the record that a complete channel was saved with. */
+bool record_done(struct record *record, const struct saved *saved);
+
 /* Whether the rows that a saved channel has behind it are there, as it was saved with them; they are kept then. */
 bool record_find(struct record *record, const struct saved *saved);
 
 /* The same for a channel that begins the record, or goes on with one whose rows are lost: nothing is kept. Refused,
    with what is different, where NAME.open is of another run, or holds rows of this one that are not known to be the
-   channel's. `replace` lets a run that begins write over it. */
+   channel's. `replace` lets a run from step 0 write over it. */
 enum status record_anew(struct record *record, const uint8_t *file, bool replace);
 
 /* Whether NAME may be written over at the end: it is not there, is whole and of this run, or `replace` is given. */
@@ -66,8 +71,9 @@ void record_saved(const struct record *record, struct saved *saved);
    else it stays under NAME.open. */
 enum status record_end(struct record *record, const uint8_t *file);
 
-/* Whether NAME.open is there with the rows so far. */
-bool record_left(const struct record *record);
+/* What is left under NAME.open: nothing, the rows so far, or something that another program has changed. */
+enum left { LEFT_NONE, LEFT_ROWS, LEFT_SPOILT };
+enum left record_left(const struct record *record);
 
 /* Lets go of memory and files; the rows stay as they are. */
 void record_free(struct record *record);

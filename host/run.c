@@ -225,32 +225,45 @@ static void say_ending(const struct run *run, const struct ending *ending)
     say_mend(file, ending->number, pours_into(&run->pour, ending->in_filter ? step - 1 : step));
 }
 
-/* Writes END, unless it stands there already; *holds is whether it then holds the channel at hand. */
+/* Writes END; *holds is whether it then holds the channel at hand, and not one that the same run has left further on.
+   Where something that the same command goes on from stands already, END is not written unless it is known. */
 static enum status save_end(struct run *run, bool *holds)
 {
     struct saved now = saved_now(run);
-    enum status flushed = run->record.path ? record_flush(&run->record) : STATUS_DONE, status = STATUS_DONE;
-    bool stands = run->end.own && same_hex(&run->end.stands.channel, &now.channel) &&
-                  stands_with(run->end.path, &now.channel);
-    if (!stands)
-        status = save_write(&run->end, &run->id, &run->channel, &now, true);
-    else if (now.recorded && !same_hex(&run->end.stands.sum, &now.sum)) /* its record has come to be another */
-        status = beside_write(&run->end.beside, &run->id, NULL, &now);
-    *holds = stands || status == STATUS_DONE || stands_with(run->end.path, &now.channel);
+    enum status flushed = run->record.path ? record_flush(&run->record) : STATUS_DONE, status;
+    bool known = run->end.own || run->checkpoint.own;
+    status = save_write(&run->end, &run->id, &run->channel, &now, !known);
+    *holds = stands_with(run->end.path, &now.channel);
+    if (status == STATUS_DONE && *holds && !run->end.fresh)
+        status = flush_named(run->end.path);
     return status == STATUS_DONE ? flushed : status;
+}
+
+/* Of a run whose END does not hold what it has come to. */
+static void say_unsaved(const struct run *run)
+{
+    const struct save *left = run->end.own ? &run->end : run->checkpoint.own ? &run->checkpoint : NULL;
+    struct stat found;
+    const char *other = !run->end.own && lstat(run->end.path, &found) == 0 ? ", with another name for END" : "";
+    if (left != &run->end)
+        say("END is not written; START is as it was");
+    if (left)
+        say("%s stays as it was, with %s steps; to go on, give the same command again%s", left->path,
+            GROUPED(left->stands.step), other);
 }
 
 /* What can be done with what is left of a run that is not complete. */
 static void say_left(const struct run *run, enum status why)
 {
-    if (record_left(&run->record))
+    enum left left = record_left(&run->record);
+    if (left == LEFT_ROWS)
         say("%s: holds the record so far", run->record.open_path);
-    if (pathpetal_complete(run->channel.bytes) || why == STATUS_OPEN)
-        return;
-    if (run->end.own)
-        say("to go on: give the same command again");
-    else
-        say("to go on: pathpetal run %s, with the same options and other names", run->end.path);
+    if (left == LEFT_SPOILT)
+        say("%s: holds no record: remove it", run->record.open_path);
+    if (!run->end.own)
+        say("to go on: move %s away, and give the same command again", run->end.path);
+    else if (why != STATUS_OPEN)
+        say("to go on: %sgive the same command again", left == LEFT_SPOILT ? "then " : "");
 }
 
 /* Writes END, then ends the record, so that no record says complete without END. */
@@ -262,22 +275,22 @@ static enum status end_run(struct run *run, struct ending ending)
     say_progress("");
     say_ending(run, &ending);
     status = save_end(run, &holds);
-    if (!holds) {
-        say("END is not written; START is as it was");
-        if (run->checkpoint.own)
-            say("%s holds the first %s steps; to go on from it, give the same command again", run->checkpoint.path,
-                GROUPED(run->checkpoint.stands.step));
-        return status;
-    }
-    if (run->record.path && status == STATUS_DONE && ending.status != STATUS_UNWRITTEN)
+    if (run->record.path && status == STATUS_DONE && ending.status != STATUS_UNWRITTEN &&
+        (holds || !pathpetal_complete(file)))
         status = record_end(&run->record, file);
-    if (ending.status == STATUS_DONE && status == STATUS_DONE) {
+    if (ending.status == STATUS_DONE && status == STATUS_DONE && holds) {
         tell("%s: %s", run->end.path, standing(file).text);
         return told();
     }
-    say("%s: %s", run->end.path, standing(file).text);
-    say_left(run, ending.status);
-    return ending.status == STATUS_DONE ? status : ending.status;
+    if (holds) {
+        say("%s: %s", run->end.path, standing(file).text);
+        say_left(run, ending.status);
+    } else {
+        say_unsaved(run);
+    }
+    if (ending.status == STATUS_DONE && status == STATUS_DONE)
+        return STATUS_UNWRITTEN;
+    return status != STATUS_DONE ? status : ending.status;
 }
 
 static enum status usage_wrong(const char *what)
@@ -329,7 +342,7 @@ static enum status take_options(struct run *run, const struct option *options)
 /* Whether all places are apart, and every output can be written. What stands there already is judged later. */
 static enum status look_at_places(const struct run *run, const char *pour)
 {
-    char *beside[3] = {joined(run->start, ".run"), joined(run->end.path, ".run"), NULL};
+    char *beside[3] = {beside_path(run->start), joined(run->end.path, ".run"), NULL};
     enum status status;
     if (run->checkpoint.path)
         beside[2] = joined(run->checkpoint.path, ".run");
@@ -348,30 +361,53 @@ static enum status look_at_places(const struct run *run, const char *pour)
     return status;
 }
 
+/* Reads START and what stands beside it. Where START is a checkpoint that another run is writing, both are read again
+   until they are of one moment. */
+static enum status read_start(struct run *run, struct beside *beside)
+{
+    struct channel *again = room_for(1, sizeof *again);
+    enum status status = channel_read(run->start, &run->channel);
+    *beside = (struct beside){.file = -1};
+    for (int try = 0; status == STATUS_DONE && try < 100; try++) {
+        struct hex sum = sum_of(run->channel.bytes, run->channel.length);
+        struct stat found;
+        beside_free(beside);
+        status = beside_read(run->start, beside);
+        if (status != STATUS_DONE || pathpetal_accepted(run->channel.bytes) == 0 || beside_find(beside, &sum) ||
+            stat(run->start, &found) != 0 || !S_ISREG(found.st_mode))
+            break;
+        status = channel_read(run->start, again);
+        if (status != STATUS_DONE || (again->length == run->channel.length &&
+                                      memcmp(again->bytes, run->channel.bytes, again->length) == 0))
+            break;
+        run->channel = *again;
+    }
+    free(again);
+    return status;
+}
+
 /* Which run this is: by what stands beside START, where that is one that a run has saved. */
-static enum status know_start(struct run *run)
+static enum status know_start(struct run *run, const struct beside *beside)
 {
     uint32_t accepted = pathpetal_accepted(run->channel.bytes);
-    struct beside beside;
     struct text how = {0};
     const struct saved *found;
-    enum status status = beside_read(run->start, &beside);
+    enum status status = STATUS_DONE;
     run->id.origin = sum_of(run->channel.bytes, run->channel.length);
     run->id.origin_step = accepted;
-    found = status == STATUS_DONE ? beside_find(&beside, &run->id.origin) : NULL;
-    if (found && found->step > beside.run.origin_step) {
-        if (!same_options(&beside.run, &run->id, &how) && !pathpetal_complete(run->channel.bytes)) {
+    found = beside_find(beside, &run->id.origin);
+    if (found && found->step == accepted && accepted > beside->run.origin_step) {
+        if (!same_options(&beside->run, &run->id, &how) && !pathpetal_complete(run->channel.bytes)) {
             say("%s: its last steps were taken with other options: %s", run->start, how.at);
             say("give the same options; or, to begin a run of its own from it, copy it under another name");
             status = STATUS_REFUSED;
         }
-        run->id = beside.run;
+        run->id = beside->run;
         run->start_saved = *found;
-    } else if (status == STATUS_DONE && accepted > 0 && !found) {
+    } else if (accepted > 0 && !found) {
         say("%s: nothing beside it says under which options its %s steps were taken", run->start, GROUPED(accepted));
     }
     free(how.at);
-    beside_free(&beside);
     return status;
 }
 
@@ -390,8 +426,14 @@ static bool goes_on_from(struct run *run, const struct save *left)
         return false;
     if (!run->record.path || (begins_alike(run, &left->stands) && record_find(&run->record, &left->stands)))
         return true;
-    say("%s: is of this run, but %s has not the rows that belong to it: it is not gone on with", left->path,
-        run->record.open_path);
+    if (!left->stands.recorded)
+        say("%s: is of this run, but was saved without a record: it is not gone on with, and stays", left->path);
+    else if (!begins_alike(run, &left->stands))
+        say("%s: is of this run, but its record begins at step %s: it is not gone on with, and stays", left->path,
+            GROUPED(left->stands.first));
+    else
+        say("%s: is of this run, but %s has not the rows that belong to it: it is not gone on with, and stays",
+            left->path, run->record.open_path);
     return false;
 }
 
@@ -415,17 +457,54 @@ static enum status choose(struct run *run)
 }
 
 /* Whether all that is asked for is there already: the same run has written it. */
-static bool is_done(const struct run *run)
+static bool is_done(struct run *run)
 {
-    return run->from == &run->end && pathpetal_complete(run->channel.bytes) &&
-           (!run->record.path || (run->record.found == run->record.named && run->record.named_whole));
+    const struct save *end = &run->end;
+    return end->own && pathpetal_complete(end->channel.bytes) &&
+           (!run->record.path ||
+            (begins_alike(run, &end->stands) && record_done(&run->record, &end->stands)));
+}
+
+/* Says that all is there already, after it is flushed: the run that wrote it may have been killed before that. */
+static enum status tell_done(const struct run *run)
+{
+    enum status status = flush_named(run->end.path);
+    if (status == STATUS_DONE)
+        status = flush_file(run->end.beside.file, run->end.beside.path);
+    if (status == STATUS_DONE && run->record.path)
+        status = flush_named(run->record.path);
+    if (status != STATUS_DONE)
+        return status;
+    tell("%s: %s (it was there already)", run->end.path, standing(run->end.channel.bytes).text);
+    return told();
+}
+
+/* Takes hold of all outputs. A checkpoint that is complete is the END of this run under another name. */
+static enum status hold(struct run *run)
+{
+    struct save *checkpoint = &run->checkpoint;
+    enum status status = save_hold(&run->end, &run->id, run->replace);
+    if (status == STATUS_DONE && checkpoint->path)
+        status = save_hold(checkpoint, &run->id, run->replace);
+    if (status == STATUS_DONE && checkpoint->own && pathpetal_complete(checkpoint->channel.bytes)) {
+        checkpoint->own = false;
+        if (!run->replace) {
+            say("%s: is complete, and no checkpoint; give another name for the checkpoint, or --replace",
+                checkpoint->path);
+            status = STATUS_REFUSED;
+        }
+    }
+    if (status == STATUS_DONE && run->record.path)
+        status = record_open(&run->record, &run->id);
+    return status;
 }
 
 /* Reads all inputs and looks at all outputs; nothing is written before all of it is in order. */
 static enum status prepare(struct run *run, const struct option *options)
 {
     const char *pour = option_value(options, "--pour");
-    enum status status = channel_read(run->start, &run->channel);
+    struct beside beside;
+    enum status status = read_start(run, &beside);
     if (status == STATUS_DONE)
         run->poured = room_for(pathpetal_cells(run->channel.bytes), 4);
     if (status == STATUS_DONE && pour)
@@ -438,30 +517,25 @@ static enum status prepare(struct run *run, const struct option *options)
     if (status == STATUS_DONE)
         status = look_at_places(run, pour);
     if (status == STATUS_DONE)
-        status = know_start(run);
-    if (status == STATUS_DONE)
-        status = save_hold(&run->end, &run->id, run->replace);
-    if (status == STATUS_DONE && run->checkpoint.path)
-        status = save_hold(&run->checkpoint, &run->id, run->replace);
-    if (status == STATUS_DONE && run->record.path)
-        status = record_open(&run->record, &run->id);
-    return status == STATUS_DONE ? choose(run) : status;
+        status = know_start(run, &beside);
+    beside_free(&beside);
+    return status == STATUS_DONE ? hold(run) : status;
 }
 
 /* The run itself, after all is in order. */
 static enum status go(struct run *run)
 {
-    const uint8_t *file = run->channel.bytes;
-    enum status status = STATUS_DONE;
-    if (is_done(run)) {
-        tell("%s: %s (it was there already)", run->end.path, standing(file).text);
-        return told();
-    }
+    enum status status;
+    if (is_done(run))
+        return tell_done(run);
+    status = choose(run);
+    if (status != STATUS_DONE)
+        return status;
     if (run->from)
         say("%s: is of this run, cut before: goes on after step %s", run->from->path,
-            GROUPED(pathpetal_accepted(file)));
+            GROUPED(pathpetal_accepted(run->channel.bytes)));
     if (run->record.path)
-        status = record_begin(&run->record, file);
+        status = record_begin(&run->record, run->channel.bytes);
     return status == STATUS_DONE ? end_run(run, take_steps(run)) : status;
 }
 

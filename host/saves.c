@@ -29,7 +29,8 @@ static enum status know(struct save *save, const struct run_id *run, struct text
     sum = sum_of(save->channel.bytes, save->channel.length);
     found = beside_find(&save->beside, &sum);
     if (!found || !same_run(&save->beside.run, run, how) ||
-        pathpetal_number(pathpetal_check(save->channel.bytes, save->channel.length)) != PATHPETAL_DONE)
+        pathpetal_number(pathpetal_check(save->channel.bytes, save->channel.length)) != PATHPETAL_DONE ||
+        pathpetal_accepted(save->channel.bytes) != found->step)
         return STATUS_DONE;
     save->own = true;
     save->stands = *found;
@@ -61,18 +62,34 @@ enum status save_hold(struct save *save, const struct run_id *run, bool replace)
     return status;
 }
 
+/* Whether what this run has saved there still stands. */
+static bool still_stands(const struct save *save)
+{
+    return save->own && stands_with(save->path, &save->stands.channel);
+}
+
+static bool same_saved(const struct saved *a, const struct saved *b)
+{
+    return same_hex(&a->channel, &b->channel) && a->recorded == b->recorded && same_hex(&a->sum, &b->sum);
+}
+
 enum status save_write(struct save *save, const struct run_id *run, const struct channel *channel,
                        const struct saved *coming, bool insist)
 {
-    enum status said = beside_write(&save->beside, run, save->own ? &save->stands : NULL, coming), status;
-    if (said != STATUS_DONE && !insist)
+    bool stands = save->own && save->stands.step >= coming->step && still_stands(save);
+    enum status said, status;
+    if (stands && (save->stands.step > coming->step || same_saved(&save->stands, coming)))
+        return STATUS_DONE;
+    said = beside_write(&save->beside, run, save->own ? &save->stands : NULL, coming);
+    if (said != STATUS_DONE && (stands || !insist))
         return said;
-    status = whole_write(save->path, channel->bytes, channel->length, &save->over);
+    status = stands ? STATUS_DONE : whole_write(save->path, channel->bytes, channel->length, &save->over);
     if (status != STATUS_DONE) {
         /* where it speaks of nothing that is there, it goes */
         save->beside.unused = !save->own && !stands_with(save->path, &coming->channel);
         return status;
     }
+    save->fresh = save->fresh || !stands;
     save->own = said == STATUS_DONE;
     save->stands = *coming;
     save->over.own = true;

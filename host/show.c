@@ -90,7 +90,7 @@ static enum status show_staffs(const char *path, const char *picture, bool repla
 {
     struct staffs staffs;
     struct text svg = {0};
-    enum status status = staffs_read(path, &staffs);
+    enum status status = staffs_read(path, &staffs, true);
     if (status == STATUS_DONE && picture) {
         draw_staffs(&svg, path, &staffs);
         status = write_picture("RECORD", path, picture, &svg, replace);

@@ -65,6 +65,7 @@ struct lines {
     struct text head;   /* the lines that follow the names: as many as a head has */
     struct sum sum;     /* of all lines */
     struct sum before;  /* of all but the last */
+    struct text last;   /* the last, with its end; the beginning alone of one that is too long */
 };
 
 static void take_line(void *to, const char *line, size_t length)
@@ -75,51 +76,121 @@ static void take_line(void *to, const char *line, size_t length)
     lines->count++;
     lines->before = lines->sum;
     sum_add(&lines->sum, line, length);
+    lines->last.length = 0;
+    text_add_bytes(&lines->last, line, length < LINE_LONGEST ? length : LINE_LONGEST);
 }
 
-/* Whether the last line has the sum of all before its digits. */
+/* Whether the last line of all is this one, to the byte, and has the sum of all before its digits. */
 static bool sum_is_right(const struct lines *lines, const char *last, const struct tail *tail)
 {
     struct sum sum = lines->before;
     struct hex hex;
+    size_t length = strlen(last);
+    if (lines->last.length != length + 1 || memcmp(lines->last.at, last, length) != 0 ||
+        lines->last.at[length] != '\n')
+        return false;
     sum_add(&sum, last, tail->before);
     hex = sum_hex(&sum);
     return same_hex(&hex, &tail->sum);
 }
 
-/* Judges a record by its head, its rows and its last line. `every` is 0 where there is one row alone. */
-static void judge(const struct csv *csv, const struct lines *lines, uint32_t last, uint32_t every,
-                  struct staffs *staffs)
+/* What the rows of a record are so far. */
+struct rows {
+    int64_t last, every;  /* the step of the row before, -1 before the first, and the steps between two; 0 for one row */
+    int64_t step_ms;      /* the time of a step, by the first row that tells it; 0 while none does */
+    bool uneven;          /* a time is not its step's */
+    size_t room;          /* for how many there is room */
+};
+
+/* Whether head, rows and last line of a record are of one run. */
+static bool agree(const struct lines *lines, const struct head *head, const struct rows *rows, const struct tail *tail,
+                  const struct staffs *staffs)
+{
+    uint32_t last = (uint32_t)rows->last;
+    return lines->count == 1 + HEAD_LINES + staffs->rows + 1 && !rows->uneven && tail->rows == staffs->rows &&
+           head->first == staffs->first && tail->first == staffs->first &&
+           (rows->every == 0 || rows->every == head->every) && tail->accepted >= last &&
+           (uint64_t)tail->accepted < (uint64_t)last + head->every && tail->accepted <= tail->wanted &&
+           tail->wanted >= 1 && tail->wanted <= STEPS_MOST && head->run.filter_every <= STEPS_MOST &&
+           tail->complete == (tail->accepted == tail->wanted);
+}
+
+/* Judges a record by its head, its rows and its last line. */
+static void judge(const struct csv *csv, const struct lines *lines, const struct rows *rows, struct staffs *staffs)
 {
     struct head head;
     struct tail tail;
     bool headed = lines->head.at && take_head(lines->head.at, &head) > 0;
     bool ended = csv->remark && !csv->cut && take_tail(csv->remark, &tail);
-    staffs->accepted = last;
+    staffs->accepted = (uint32_t)rows->last;
     staffs->whole = RECORD_CHANGED;
-    if (!ended && (!csv->remark || csv->cut)) {
-        staffs->whole = RECORD_CUT;
+    if (!csv->remark || csv->cut) {
+        if (!headed || (head.first == staffs->first && (rows->every == 0 || rows->every == head.every)))
+            staffs->whole = RECORD_CUT;
     } else if (ended && !headed && !tail.summed) {
         staffs->whole = RECORD_OLD;
     } else if (ended && headed && tail.summed && sum_is_right(lines, csv->remark, &tail) &&
-               tail.rows == staffs->rows && head.first == staffs->first && tail.first == staffs->first &&
-               (every == 0 || every == head.every) && tail.accepted >= last &&
-               (uint64_t)tail.accepted < (uint64_t)last + head.every && tail.accepted <= tail.wanted &&
-               tail.complete == (tail.accepted == tail.wanted)) {
+               agree(lines, &head, rows, &tail, staffs)) {
         staffs->whole = tail.complete ? RECORD_COMPLETE : RECORD_OPEN;
         staffs->accepted = tail.accepted;
         staffs->wanted = tail.wanted;
     }
-    if (headed && (head.first != staffs->first || (every > 0 && every != head.every)))
-        staffs->whole = RECORD_CHANGED;
 }
 
-enum status staffs_read(const char *path, struct staffs *staffs)
+/* Looks at a time beside its step. */
+static void look_at_time(struct rows *rows, int64_t step, int64_t ms)
+{
+    if (rows->step_ms == 0 && step > 0)
+        rows->step_ms = ms / step;
+    if (ms != step * rows->step_ms || rows->step_ms > STEP_MOST || (step > 0 && rows->step_ms < STEP_LEAST))
+        rows->uneven = true;
+}
+
+/* Takes the row at hand in. Without `keep` each takes the place of the one before. */
+static enum status take_row(const struct csv *csv, struct rows *rows, struct staffs *staffs, bool keep)
+{
+    size_t at = keep ? staffs->rows : 0;
+    int64_t step = 0;
+    enum status status = csv_number(csv, 0, 0, STEPS_MOST, &step);
+    if (status != STATUS_DONE)
+        return status;
+    if (rows->last >= 0 && (step <= rows->last || (rows->every > 0 && step != rows->last + rows->every)))
+        return csv_wrong(csv, 0, "is not the step that must follow: rows are lost or out of order");
+    if (rows->last >= 0)
+        rows->every = step - rows->last;
+    else
+        staffs->first = (uint32_t)step;
+    rows->last = step;
+    if (at == rows->room) {
+        rows->room = rows->room ? 2 * rows->room : 256;
+        staffs->times = more_room(staffs->times, rows->room, sizeof *staffs->times);
+        staffs->heights = more_room(staffs->heights, rows->room * staffs->count, sizeof *staffs->heights);
+    }
+    status = take_time(csv, 1, &staffs->times[at]);
+    if (status == STATUS_DONE)
+        look_at_time(rows, step, staffs->times[at]);
+    for (size_t k = 0; status == STATUS_DONE && k < staffs->count; k++)
+        status = csv_number(csv, (long)k + 2, -HEIGHT_MOST, HEIGHT_MOST, &staffs->heights[at * staffs->count + k]);
+    staffs->rows++;
+    return status;
+}
+
+/* A record without rows tells nothing; one whose last line counts some was cut. */
+static enum status no_rows(const struct csv *csv)
+{
+    struct tail tail;
+    if (csv->remark && take_tail(csv->remark, &tail) && tail.rows > 0)
+        say("%s: has no rows, but its last line counts some: it was cut after it was written", csv->path);
+    else
+        say("%s: has no rows yet", csv->path);
+    return STATUS_REFUSED;
+}
+
+enum status staffs_read(const char *path, struct staffs *staffs, bool keep)
 {
     struct csv csv;
     struct lines lines = {.count = 0};
-    size_t room = 0;
-    int64_t last = -1, every = 0; /* the step of the row before, and the steps between two rows */
+    struct rows rows = {.last = -1};
     enum status status;
     *staffs = (struct staffs){.count = 0};
     sum_begin(&lines.sum);
@@ -130,10 +201,9 @@ enum status staffs_read(const char *path, struct staffs *staffs)
         status = take_columns(&csv, staffs);
     while (status == STATUS_DONE) {
         bool more = false;
-        int64_t step = 0;
         status = csv_row(&csv, &more);
         if (status != STATUS_DONE && csv.cut) {
-            say("the last line is cut: the run was stopped while it was written; run on from a checkpoint");
+            say("the last line is cut: the run was stopped while it was written; give the run's command again");
             break;
         }
         if (status != STATUS_DONE || !more)
@@ -142,36 +212,14 @@ enum status staffs_read(const char *path, struct staffs *staffs)
             say("%s: line %lu: is cut, and passed over", path, csv.line);
             break;
         }
-        status = csv_number(&csv, 0, 0, STEPS_MOST, &step);
-        if (status == STATUS_DONE && last >= 0 && (step <= last || (every > 0 && step != last + every)))
-            status = csv_wrong(&csv, 0, "is not the step that must follow: rows are lost or out of order");
-        if (last >= 0)
-            every = step - last;
-        else
-            staffs->first = (uint32_t)step;
-        last = step;
-        if (staffs->rows == room) {
-            room = room ? 2 * room : 256;
-            staffs->times = more_room(staffs->times, room, sizeof *staffs->times);
-            staffs->heights = more_room(staffs->heights, room * staffs->count, sizeof *staffs->heights);
-        }
-        if (status == STATUS_DONE)
-            status = take_time(&csv, 1, &staffs->times[staffs->rows]);
-        for (size_t k = 0; status == STATUS_DONE && k < staffs->count; k++)
-            status = csv_number(&csv, (long)k + 2, -HEIGHT_MOST, HEIGHT_MOST,
-                                &staffs->heights[staffs->rows * staffs->count + k]);
-        staffs->rows++;
-    }
-    if (status == STATUS_DONE && staffs->rows == 0) {
-        struct tail tail;
-        bool lost = csv.remark && take_tail(csv.remark, &tail) && tail.rows > 0;
-        say(lost ? "%s: has no rows, but its last line counts some: it was cut after it was written"
-                 : "%s: has no rows yet", path);
-        status = STATUS_REFUSED;
+        status = take_row(&csv, &rows, staffs, keep);
     }
     if (status == STATUS_DONE)
-        judge(&csv, &lines, (uint32_t)last, (uint32_t)every, staffs);
+        status = staffs->rows == 0 ? no_rows(&csv) : status;
+    if (status == STATUS_DONE)
+        judge(&csv, &lines, &rows, staffs);
     free(lines.head.at);
+    free(lines.last.at);
     csv_close(&csv);
     return status;
 }

@@ -24,7 +24,8 @@ struct staffs {
     enum whole whole;
 };
 
-enum status staffs_read(const char *path, struct staffs *staffs);
+/* Reads a record and judges it; without `keep` the times and heights are looked at, and not held. */
+enum status staffs_read(const char *path, struct staffs *staffs, bool keep);
 void staffs_free(struct staffs *staffs);
 
 int64_t staff_height(const struct staffs *staffs, size_t row, size_t staff);

@@ -66,9 +66,9 @@ static bool is_seen(const unsigned char *at, size_t bytes)
     if (bytes == 1)
         return at[0] >= 32 && at[0] != 127;
     if (bytes == 2)
-        return at[0] != 0xC2 || at[1] >= 0xA0;
+        return (at[0] != 0xC2 || at[1] >= 0xA0) && (at[0] != 0xD8 || at[1] != 0x9C);
     if (at[0] == 0xE2 && at[1] == 0x80)
-        return at[2] < 0xA8 || at[2] > 0xAE;
+        return (at[2] < 0x8E || at[2] > 0x8F) && (at[2] < 0xA8 || at[2] > 0xAE);
     if (at[0] == 0xE2 && at[1] == 0x81)
         return at[2] < 0xA6 || at[2] > 0xA9;
     return bytes > 0;

@@ -1,3 +1,4 @@
+#define _GNU_SOURCE /* renameat2 */
 #include "whole.h"
 
 #include <errno.h>
@@ -72,6 +73,19 @@ enum status flush_folder(const char *path)
     return status;
 }
 
+enum status flush_named(const char *path)
+{
+    enum status status;
+    int file = open(path, O_RDONLY | O_NOFOLLOW | O_CLOEXEC);
+    if (file < 0) {
+        say("%s: cannot be opened to flush it to disk: %s", path, strerror(errno));
+        return STATUS_UNWRITTEN;
+    }
+    status = flush_file(file, path);
+    close(file);
+    return status == STATUS_DONE ? flush_folder(path) : status;
+}
+
 static enum status has_come(const char *path)
 {
     say("%s: has come to be while this ran and is not written over; give --replace or another name", path);
@@ -116,12 +130,28 @@ static bool may_go(const char *path, const struct over *over)
     return over->any || (over->own && stands_with(path, &over->sum));
 }
 
-enum status whole_name(const char *from, const char *path, const struct over *over)
+/* Renames, but never to a name that a file has: where the system cannot promise that, it is asked just before. */
+static int rename_free(const char *from, const char *path)
 {
     struct stat there;
-    if (lstat(path, &there) == 0 && !may_go(path, over))
-        return has_come(path);
-    if (rename(from, path) != 0) {
+#ifdef RENAME_NOREPLACE
+    if (renameat2(AT_FDCWD, from, AT_FDCWD, path, RENAME_NOREPLACE) == 0)
+        return 0;
+    if (errno != EINVAL && errno != ENOSYS)
+        return -1;
+#endif
+    if (lstat(path, &there) == 0) {
+        errno = EEXIST;
+        return -1;
+    }
+    return rename(from, path);
+}
+
+enum status whole_name(const char *from, const char *path, const struct over *over)
+{
+    if ((may_go(path, over) ? rename(from, path) : rename_free(from, path)) != 0) {
+        if (errno == EEXIST)
+            return has_come(path);
         say("%s: cannot be given its name: %s", path, strerror(errno));
         return STATUS_UNWRITTEN;
     }
@@ -143,9 +173,9 @@ static enum status name_part(const char *part, const char *path, const struct ov
     return flush_folder(path);
 }
 
-void keep_mode(int file, const struct stat *of)
+void keep_mode(int file, const struct stat *of, mode_t more)
 {
-    mode_t mode = of->st_mode & 0777;
+    mode_t mode = (of->st_mode & 0777) | more;
     if (fchown(file, (uid_t)-1, of->st_gid) != 0)
         mode &= ~(mode_t)070; /* what its group may do is not for another group */
     if (fchmod(file, mode) != 0)
@@ -164,7 +194,7 @@ static int open_part(const char *path, char **name, const struct stat *of)
         file = open(*name, O_RDWR | O_CREAT | O_EXCL | O_CLOEXEC, of ? 0600 : 0666);
         if (file >= 0) {
             if (of)
-                keep_mode(file, of);
+                keep_mode(file, of, 0);
             return file;
         }
         why = errno;
@@ -264,6 +294,10 @@ enum status next_end(const char *path, int *alone, struct next *next, enum statu
     enum status status = so_far;
     if (status == STATUS_DONE)
         status = flush_file(next->file, path);
+    if (status == STATUS_DONE && !still_named(*alone, path)) {
+        say("%s: was taken away or replaced by another program while this ran", path);
+        status = STATUS_UNWRITTEN;
+    }
     if (status == STATUS_DONE)
         status = whole_name(next->part, path, &(struct over){.any = true});
     if (still_named(next->file, path)) {

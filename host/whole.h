@@ -30,8 +30,9 @@ enum status open_alone(const char *path, int *file, bool *made);
 /* Whether an open file still has a name. */
 bool still_named(int file, const char *path);
 
-/* Gives an open file the mode and group of another, so that nobody reads it who could not read that one. */
-void keep_mode(int file, const struct stat *of);
+/* Gives an open file the mode and group of another and these bits more, so that nobody else reads it who could not read
+   that one. */
+void keep_mode(int file, const struct stat *of, mode_t more);
 
 /* A fresh file that is to take the place of one that is open for this process alone, and is so too: it is locked before
    it has the name, the old one until it has lost it. */
@@ -56,6 +57,9 @@ enum status write_all(int to, const void *bytes, size_t length, const char *name
 /* Flushes an open file to disk; flushes the folder that a file stands in. */
 enum status flush_file(int file, const char *name);
 enum status flush_folder(const char *path);
+
+/* Both, for a file that was written before. Not for one that is open for this process alone: its lock would end. */
+enum status flush_named(const char *path);
 
 /* A place in the file system: a file that is there, and the name in its folder. */
 struct place {
