@@ -45,7 +45,7 @@ pub fn all_within(row: &[i64], n: usize, most: u64) -> bool
 fn depth_allowed(h: i64) -> bool
     ensures { λ r. ⌜ r ≡ rule.depthAllowed h ⌝ }
 {
-    (1 <= h) & (h <= 20000)
+    (1 <= h) & (h <= rule::MOST_DEPTH)
 }
 
 // Each of the first n depths is allowed.
@@ -70,7 +70,7 @@ pub fn deep(h: &[i64], e: &[i64], n: usize) -> bool
     let mut fine = true;
     let mut j = 0;
     while j < n {
-        fine = fine & (1000 <= 1000 * h[j] + e[j]);
+        fine = fine & (rule::LEAST_WATER <= 1000 * h[j] + e[j]);
         j += 1;
     }
     fine
@@ -90,19 +90,19 @@ pub fn wet(n: usize, x: u64, h: &[i64], e: &[i64]) -> u64
     0
 }
 
-fn cells_allowed(n: usize) -> bool
+pub fn cells_allowed(n: usize) -> bool
     ensures { λ r. ⌜ r ≡ rule.cellsAllowed n ⌝ }
 {
-    (8 <= n) & (n <= 256)
+    (rule::LEAST_CELLS <= n) & (n <= rule::MOST_CELLS)
 }
 
 pub fn counts_allowed(x: u64, t: u64, wanted: u64, accepted: u64) -> bool
     ensures { λ r. ⌜ r ≡ rule.countsAllowed x t wanted accepted ⌝ }
 {
-    (10 <= x)
-        & (x <= 5000)
-        & ((1 <= t) & (t <= 100))
-        & ((1 <= wanted) & (wanted <= 1000000))
+    (rule::LEAST_WIDTH <= x)
+        & (x <= rule::MOST_WIDTH)
+        & ((1 <= t) & (t <= rule::MOST_TIME))
+        & ((1 <= wanted) & (wanted <= rule::MOST_STEPS))
         & (accepted <= wanted)
 }
 
@@ -125,16 +125,18 @@ pub fn shaped(n: usize, h: &[i64], e: &[i64], u: &[i64], v: &[i64], q: &[i64], f
 fn values_allowed(h: &[i64], e: &[i64], u: &[i64]) -> bool
     ensures { λ r. ⌜ r ≡ valuesAllowed (now (h .entry)) (now (e .entry)) (now (u .entry)) ⌝ }
 {
-    all_depths(h, h.len()) & all_within(e, e.len(), 20000000) & all_within(u, u.len(), 20000000)
+    all_depths(h, h.len())
+        & all_within(e, e.len(), rule::MOST_HEIGHT)
+        & all_within(u, u.len(), rule::MOST_VELOCITY)
 }
 
 // 3: reduced velocities and the levels of Q and F.
 fn levels_allowed(v: &[i64], q: &[i64], f: &[i64]) -> bool
     ensures { λ r. ⌜ r ≡ levelsAllowed (now (v .entry)) (now (q .entry)) (now (f .entry)) ⌝ }
 {
-    all_within(v, v.len(), 2000000000)
-        & all_within(q, q.len(), 1000000000000000)
-        & all_within(f, f.len(), 100000000000)
+    all_within(v, v.len(), rule::MOST_REDUCED)
+        & all_within(q, q.len(), rule::MOST_FLUX)
+        & all_within(f, f.len(), rule::MOST_ACCELERATION)
 }
 
 // 1: a poured row has n entries.
@@ -149,7 +151,7 @@ fn poured_allowed(poured: bool, s: &[i64]) -> bool
     ensures { λ r. ⌜ r ≡ all (checks.small rule.mostPoured) (pouredRows poured (now (s .entry))) ⌝ }
 {
     if poured {
-        all_within(s, s.len(), 1000000)
+        all_within(s, s.len(), rule::MOST_POURED)
     } else {
         true
     }

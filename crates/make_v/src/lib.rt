@@ -45,7 +45,7 @@ pub fn reduced_velocities(n: usize, x: u64, h: &[i64], u: &[i64]) -> Velocities
     let mut j = 0;
     while j < n {
         let v = reduced_velocity(n, x, h, u, j);
-        if !round::within(v, 2000000000) {
+        if !round::within(v, rule::MOST_REDUCED) {
             return Velocities {
                 number: 7,
                 v: [0; 256],
