@@ -3,6 +3,7 @@ use Prim.Native.Nat.{ℕ, _-_}
 use mathlib.Core.Path.{_≡_, refl, sym, _∙_, ap}
 use mathlib.Core.Bool.{Bool, true, false, _&&_}
 use native.Mathlib.Omega.{arith}
+use lib.Dec.{eqb, lit≤}
 use lib.ListN.{length}
 use Rattle.whole.specs.Row.{length-tab}
 use Rattle.rule.specs.declared.Answer.{Answer}
@@ -10,7 +11,7 @@ use Rattle.rule.specs.Rounded.{roundedFloat}
 use Rattle.rule.specs.Rows.{Row}
 use Rattle.rule.specs.Ranges.{cellsAllowed}
 use Rattle.rule.specs.Channel.{Channel, channel, filled, renewed}
-use Rattle.rule.specs.Refusals.{Refusal, shape, counts, value, depth, dominance, speed, flux, number, Outcome, refused, done, numberOf, _>>=_, require}
+use Rattle.rule.specs.Refusals.{shape, speed, flux, number, Outcome, refused, done, numberOf, _>>=_, require}
 use Rattle.rule.specs.Flux.{fluxes}
 use Rattle.rule.specs.Acceleration.{accelerations}
 use Rattle.rule.specs.Checks.{wet}
@@ -20,64 +21,24 @@ use Rattle.rows.specs.All.{map-tab}
 use Rattle.rows.specs.Firsts.{firsts, firsts-padded}
 use Rattle.flux.specs.Faces.{length-fluxes}
 use Rattle.flux.specs.Sizes.{length-accelerations}
-use Rattle.answers.specs.Stages.{leaves, refusal, acceptance, stageOf}
+use Rattle.checks.specs.Numbers.{Outside, outside-met, refuses-then, refuses-test}
+use Rattle.checks.specs.Met.{make-checked-met}
+use Rattle.answers.specs.Stages.{leaves, early, acceptance, refused-call, accepted-call, unfit-call}
 use Rattle.store.specs.Levels.{renewed-all}
 use Rattle.make.specs.declared.Made.{Made}
 use Rattle.make.specs.Made.{madeOf, made-number, rowsOf, rows-kept, whole-of}
 
--- a refusal before any stage
-abbrev pub refusal-0 : ℕ → Answer
-refusal-0 r = refusal r (stageOf r 0)
+-- a refusal of make has stage 0
+make-outside : (n X T wanted : ℕ) (h e u : Row) → Outside (make n X T wanted h e u)
+unfolding make reducedVelocities fluxes number
+make-outside n X T wanted h e u =
+    refuses-then (λ k. eqb k 10 ≡ false) (makeChecked n X T wanted h e u) _ (outside-met 1 5 (makeChecked n X T wanted h e u) (lit≤ tt) (make-checked-met n X T wanted h e u))
+    (λ _. refuses-then (λ k. eqb k 10 ≡ false) (reducedVelocities n X h u) _ (refuses-test (λ k. eqb k 10 ≡ false) _ speed _ refl tt)
+    (λ v. refuses-then (λ k. eqb k 10 ≡ false) (fluxes n X h e u) _ (refuses-test (λ k. eqb k 10 ≡ false) _ flux _ refl tt) (λ Q. tt)))
 
--- a refusal's stage is the one that its number has before any stage
-abbrev Early : {A : Type 0} → Outcome A → Type 0
-Early (refused r k) = k ≡ stageOf (number r) 0
-Early (done a) = Unit {0}
-
-early-test : (b : Bool) (r : Refusal) → 0 ≡ stageOf (number r) 0 → Early (require b r)
-unfolding require
-early-test true r e = tt
-early-test false r e = e
-
-early-both : {A B : Type 0} (m : Outcome A) (f : A → Outcome B) → Early m → ((a : A) → Early (f a)) → Early (m >>= f)
-unfolding _>>=_
-early-both (refused r k) f h g = h
-early-both (done a) f h g = g a
-
-early-then : {B : Type 0} (b : Bool) (r : Refusal) (f : Unit {0} → Outcome B) → 0 ≡ stageOf (number r) 0 → Early (f tt) → Early (require b r >>= f)
-early-then b r f e h = early-both (require b r) f (early-test b r e) (λ _. h)
-
-make-early : (n X T wanted : ℕ) (h e u : Row) → Early (make n X T wanted h e u)
-unfolding make makeChecked wet reducedVelocities fluxes number stageOf
-make-early n X T wanted h e u =
-    early-both (makeChecked n X T wanted h e u) _
-    (early-then _ shape _ refl
-    (early-then _ counts _ refl
-    (early-then _ value _ refl
-    (early-then _ value _ refl
-    (early-then _ value _ refl (early-then _ depth _ refl (early-test _ dominance refl)))))))
-    (λ _. early-both (reducedVelocities n X h u) _ (early-then _ speed _ refl tt) (λ v. early-both (fluxes n X h e u) _ (early-then _ flux _ refl tt) (λ Q. tt)))
-
-module _ (lent : Channel) where
-  -- 1: a lent row does not fit, or N is not allowed, which make refuses itself
-  unfit : (a b : Bool) (m : Outcome Channel) → (a ≡ false → m ≡ refused shape 0) → a && b ≡ false → leaves (refusal-0 1) lent ≡ plainly lent (require b shape >>= λ _. m)
-  unfolding require _>>=_ plainly called number stageOf
-  unfit a false m p z = refl
-  unfit false true m p z = rw (p refl)
-  unfit true true m p z = let y : _≡_ {A = ℕ} 0 1 = cc z in absurd (omega arith)
-
-  fits : (b : Bool) (m : Outcome Channel) → b ≡ true → plainly lent (require b shape >>= λ _. m) ≡ plainly lent m
-  unfolding require _>>=_
-  fits b m z = rw z
-
-  refuses : (r : ℕ) (m : Outcome Channel) → Early m → r ≡ numberOf m → (r ≡ 0 → ⊥) → leaves (refusal-0 r) lent ≡ plainly lent m
-  unfolding plainly called numberOf
-  refuses r (refused why k) h e z = rw (e, h)
-  refuses r (done c) h e z = absurd (z e)
-
-  leaves-done : (m : Outcome Channel) (c : Channel) → m ≡ done c → leaves (acceptance 0) c ≡ plainly lent m
-  unfolding plainly called
-  leaves-done m c e = rw e
+fits : (lent : Channel) (b : Bool) (m : Outcome Channel) → b ≡ true → plainly lent (require b shape >>= λ _. m) ≡ plainly lent m
+unfolding require _>>=_
+fits lent b m z = rw z
 
 make-unfit : (n X T wanted : ℕ) (h e u : Row) → cellsAllowed n ≡ false → make n X T wanted h e u ≡ refused shape 0
 unfolding make makeChecked require _>>=_
@@ -101,8 +62,9 @@ module _ (lent : Channel) where
   unfolding makeCall
   call-is = refl
 
-  pub refused-1 : cellsAllowed (lent .N) && fit lent (lent .N) ≡ false → leaves (refusal-0 1) lent ≡ makeCall lent
-  refused-1 z = unfit lent (cellsAllowed (lent .N)) (fit lent (lent .N)) made (make-unfit (lent .N) (lent .X) (lent .T) (lent .wanted) (lent .h) (lent .e) (lent .u)) z ∙ call-is
+  pub refused-1 : cellsAllowed (lent .N) && fit lent (lent .N) ≡ false → leaves (early 1) lent ≡ makeCall lent
+  unfolding makeCall plainly
+  refused-1 z = unfit-call lent (λ _. 0) (λ c. c) (cellsAllowed (lent .N)) (fit lent (lent .N)) made (make-unfit (lent .N) (lent .X) (lent .T) (lent .wanted) (lent .h) (lent .e) (lent .u)) z
 
   module _ (fitting : fit lent (lent .N) ≡ true) (r : Made) (is : r ≡ madeOf (lent .N) made) where
     number-is : r .number ≡ numberOf made
@@ -111,8 +73,10 @@ module _ (lent : Channel) where
     past-1 : plainly lent made ≡ makeCall lent
     past-1 = sym (fits lent (fit lent (lent .N)) made fitting) ∙ call-is
 
-    pub refused-by : (r .number ≡ 0 → ⊥) → leaves (refusal-0 (r .number)) lent ≡ makeCall lent
-    refused-by z = refuses lent (r .number) made (make-early (lent .N) (lent .X) (lent .T) (lent .wanted) (lent .h) (lent .e) (lent .u)) number-is z ∙ past-1
+    pub refused-by : (r .number ≡ 0 → ⊥) → leaves (early (r .number)) lent ≡ makeCall lent
+    unfolding plainly
+    refused-by z =
+        refused-call lent (λ _. 0) (λ c. c) (r .number) made (make-outside (lent .N) (lent .X) (lent .T) (lent .wanted) (lent .h) (lent .e) (lent .u)) number-is z ∙ past-1
 
     -- with all rows stored
     abbrev after : Channel
@@ -121,6 +85,7 @@ module _ (lent : Channel) where
         (filled (firsts (lent .N) (r .f)))
 
     pub stored : r .number ≡ 0 → length (lent .v) ≡ lent .N → leaves (acceptance 0) after ≡ makeCall lent
+    unfolding plainly
     stored z v-long =
         let n = lent .N in
         let X = lent .X in
@@ -139,4 +104,4 @@ module _ (lent : Channel) where
         ap (λ (t : Made). firsts (n - 1) (t .q)) k ∙ firsts-padded (n - 1) (w .Q) (length-fluxes n X h e u (w .Q) (w .Q-done)) in
         let F-is : firsts n (r .f) ≡ accelerations n X e u =
         ap (λ (t : Made). firsts n (t .f)) k ∙ firsts-padded n (accelerations n X e u) (length-accelerations n X e u) in
-        (λ i. leaves (acceptance 0) (channel n X T 0 wanted h e u (v-is i) (filled (Q-is i)) (filled (F-is i)))) ∙ leaves-done lent made _ (w .is) ∙ past-1
+        (λ i. leaves (acceptance 0) (channel n X T 0 wanted h e u (v-is i) (filled (Q-is i)) (filled (F-is i)))) ∙ accepted-call lent (λ _. 0) (λ c. c) made _ (w .is) ∙ past-1

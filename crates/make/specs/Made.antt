@@ -13,12 +13,12 @@ use Rattle.rule.specs.Flux.{fluxes}
 use Rattle.rule.specs.Acceleration.{accelerations}
 use Rattle.rule.specs.Make.{makeChecked, make, reducedVelocities}
 use Rattle.rows.specs.Firsts.{firsts, firsts-all}
-use Rattle.solve.specs.Solved.{solvedOf}
+use Rattle.solve.specs.Solved.{solvedOf, solved-number}
 use Rattle.flux.specs.declared.FaceFluxes.{FaceFluxes}
 use Rattle.flux.specs.Asked.{Moving, Ready}
-use Rattle.flux.specs.Faces.{fluxesOf, length-fluxes}
+use Rattle.flux.specs.Faces.{fluxesOf, fluxes-number, length-fluxes}
 use Rattle.flux.specs.Sizes.{length-accelerations}
-use Rattle.checks.specs.Numbers.{number-not-0, done-of, after-done}
+use Rattle.checks.specs.Numbers.{done-of, result-of, first-done, after-done}
 use Rattle.checks.specs.Facts.{bed-of}
 use Rattle.checks.specs.Made.{Makeable, worked, make-is}
 use Rattle.make_v.specs.declared.Velocities.{Velocities}
@@ -48,22 +48,6 @@ newest : (n : ℕ) (row : Row) → length row ≡ n → firsts n (filled row) �
 unfolding filled
 newest n row long = tab-ext n (cell (filled row)) (cell row) (λ i h. List·getD-append row (row ++ row) (pos 0) i (rw long h)) ∙ firsts-all n row long
 
--- what is done: where the number is 0 there is a result
-pub record Done {A : Type 0} (m : Outcome A) : Type 0 where
-  pub result : A
-  pub is : m ≡ done result
-
-pub result-of : {A : Type 0} (m : Outcome A) → numberOf m ≡ 0 → Done m
-unfolding numberOf
-result-of (refused r k) z = absurd (number-not-0 r z)
-result-of (done a) z = record { result = a; is = refl }
-
--- and the first of two is done where both are
-pub first-of : {A B : Type 0} (m : Outcome A) (f : A → Outcome B) → numberOf (m >>= f) ≡ 0 → numberOf m ≡ 0
-unfolding numberOf _>>=_
-first-of (refused r k) f z = z
-first-of (done a) f z = refl
-
 -- a number that is not 0 is the refusal's, whatever was to follow
 stops : {A : Type 0} (n r : ℕ) (m : Outcome A) (f : A → Outcome Channel) → r ≡ numberOf m → (r ≡ 0 → ⊥) → nothing r ≡ madeOf n (m >>= f)
 unfolding numberOf _>>=_ madeOf
@@ -82,19 +66,9 @@ kept-by :
 kept-by told array of n p q m s e =
     record { number = ap told e ∙ p m; row = λ new d. ap array (e ∙ ap of d) ∙ q new }
 
-velocities-number : (n : ℕ) (m : Outcome Row) → velocitiesOf n m .number ≡ numberOf m
-unfolding velocitiesOf solvedOf numberOf
-velocities-number n (refused r k) = refl
-velocities-number n (done v) = refl
-
 pub kept-velocities : (n : ℕ) (m : Outcome Row) (s : Velocities) → s ≡ velocitiesOf n m → Kept n m (s .number) (s .v)
 unfolding velocitiesOf solvedOf
-kept-velocities n = kept-by (λ (s : Velocities). s .number) (λ (s : Velocities). s .v) (velocitiesOf n) n (velocities-number n) (λ new. refl)
-
-fluxes-number : (n : ℕ) (m : Outcome Row) → fluxesOf n m .number ≡ numberOf m
-unfolding fluxesOf numberOf
-fluxes-number n (refused r k) = refl
-fluxes-number n (done Q) = refl
+kept-velocities n = kept-by (λ (s : Velocities). s .number) (λ (s : Velocities). s .v) (velocitiesOf n) n (solved-number n) (λ new. refl)
 
 pub kept-fluxes : (n : ℕ) (m : Outcome Row) (s : FaceFluxes) → s ≡ fluxesOf n m → Kept (n - 1) m (s .number) (s .q)
 unfolding fluxesOf
@@ -183,7 +157,7 @@ module _ (n X T wanted : ℕ) (h e u : Row) where
 
   pub whole-of : numberOf made ≡ 0 → Whole
   whole-of z =
-      let passed = first-of checks _ (sym (ap numberOf (make-is n X T wanted h e u)) ∙ z) in
-      let d = result-of (reducedVelocities n X h u) (first-of (reducedVelocities n X h u) after-v (sym (ap numberOf (after-checks passed)) ∙ z)) in
-      let g = result-of (fluxes n X h e u) (first-of (fluxes n X h e u) _ (sym (ap numberOf (after-velocities passed (d .result) (d .is))) ∙ z)) in
+      let passed = first-done checks _ (sym (ap numberOf (make-is n X T wanted h e u)) ∙ z) in
+      let d = result-of (reducedVelocities n X h u) (first-done (reducedVelocities n X h u) after-v (sym (ap numberOf (after-checks passed)) ∙ z)) in
+      let g = result-of (fluxes n X h e u) (first-done (fluxes n X h e u) _ (sym (ap numberOf (after-velocities passed (d .result) (d .is))) ∙ z)) in
       whole passed (d .result) (g .result) (d .is) (g .is)

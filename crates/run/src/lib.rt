@@ -42,11 +42,7 @@ fn at_end(accepted: u64, wanted: u64, count: u64) -> rule::Answer
     if accepted == wanted {
         return answers::accepted(count);
     }
-    rule::Answer {
-        number: 16,
-        stage: 0,
-        count,
-    }
+    answers::paused(count)
 }
 
 // At most `most` steps, for a caller who stops between calls.
