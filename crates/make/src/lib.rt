@@ -9,9 +9,9 @@ ghost use Rattle.answers.specs.Stages.{leaves};
 // 0 with V, Q of each face and F of each cell; or the refusal's number, and zeros.
 struct Made {
     number: u64,
-    v: [i64; 256],
-    q: [i64; 256],
-    f: [i64; 256],
+    v: [i64; rule::MOST_CELLS],
+    q: [i64; rule::MOST_CELLS],
+    f: [i64; rule::MOST_CELLS],
 }
 
 fn nothing(number: u64) -> Made
@@ -19,9 +19,9 @@ fn nothing(number: u64) -> Made
 {
     Made {
         number,
-        v: [0; 256],
-        q: [0; 256],
-        f: [0; 256],
+        v: [0; rule::MOST_CELLS],
+        q: [0; rule::MOST_CELLS],
+        f: [0; rule::MOST_CELLS],
     }
 }
 

@@ -8,7 +8,7 @@ use lib.ListN.{length, take}
 use Rattle.whole.specs.Row.{padded}
 use Rattle.rule.specs.declared.Answer.{Answer}
 use Rattle.rule.specs.Rows.{Row}
-use Rattle.rule.specs.Ranges.{cellsAllowed}
+use Rattle.rule.specs.Ranges.{cellsAllowed, leastCells, mostCells}
 use Rattle.rule.specs.Channel.{Channel, rows}
 use Rattle.rule.specs.Refusals.{Outcome, refused, done, number, _>>=_, require}
 use Rattle.rule.specs.Make.{make}
@@ -29,8 +29,8 @@ use Rattle.make_file.specs.Order.{filed}
 
 -- n cells, their rows, and a buffer of their file's length
 pub record Fitting (n : ℕ) (h e u : Row) (s : List ℕ) : Type 0 where
-  pub least : 8 ≤ n
-  pub most : n ≤ 256
+  pub least : leastCells ≤ n
+  pub most : n ≤ mostCells
   pub h-long : length h ≡ n
   pub e-long : length e ≡ n
   pub u-long : length u ≡ n
@@ -86,8 +86,8 @@ module _ (lent c : Channel) (r : Answer) (s : List ℕ) (is : leaves r c ≡ mak
 
 -- rows of n entries in bytes
 pub record Held (n : ℕ) (h e u : List ℕ) : Type 0 where
-  pub least : 8 ≤ n
-  pub most : n ≤ 256
+  pub least : leastCells ≤ n
+  pub most : n ≤ mostCells
   pub hold : holds h n && holds e n && holds u n ≡ true
   pub h-bytes : length h ≡ 4 * n
   pub e-bytes : length e ≡ 4 * n

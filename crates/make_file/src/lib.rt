@@ -3,7 +3,7 @@ ghost use mathlib.Core.Path.{_≡_};
 ghost use mathlib.Core.Bool.{_&&_};
 ghost use Prim.Native.Nat.{_≤_};
 ghost use lib.ListN.{length};
-ghost use Rattle.rule.specs.Ranges.{cellsAllowed};
+ghost use Rattle.rule.specs.Ranges.{cellsAllowed, mostCells};
 ghost use Rattle.rule.specs.Refusals.{numberOf};
 ghost use Rattle.rule.specs.File.{lengthOf};
 ghost use Rattle.rule.specs.Calls.{holds, makeFile};
@@ -30,7 +30,7 @@ fn shape_passes(n: u64, h: &[u8], e: &[u8], u: &[u8]) -> bool
 
 // 15, or 0 where `room` is the length of a file of n cells.
 fn check_buffer(n: usize, room: usize) -> u64
-    requires { ⌜ n ≤ 256 ⌝ }
+    requires { ⌜ n ≤ mostCells ⌝ }
     ensures { λ r. ⌜ r ≡ numberOf (bufferChecked n room) ⌝ }
 {
     if room != 24 + 64 * n {
@@ -51,7 +51,7 @@ fn first(one: u64, other: u64) -> u64
 
 // 1 to 5, then 15: 0, or the number of the first that fails.
 fn check(n: usize, x: u64, t: u64, wanted: u64, h: &[i64], e: &[i64], u: &[i64], room: usize) -> u64
-    requires { ⌜ n ≤ 256 ⌝ }
+    requires { ⌜ n ≤ mostCells ⌝ }
     ensures { λ r. ⌜ r ≡ numberOf (tested n x t wanted (now (h .entry)) (now (e .entry)) (now (u .entry)) room) ⌝ }
 {
     let input = checks::check_made(n, x, t, wanted, h, e, u);
@@ -71,17 +71,17 @@ fn refused(number: u64) -> rule::Answer
 }
 
 // An array for a row of up to 256 entries.
-fn cells_room() -> [i64; 256]
-    ensures { λ r. ⌜ length r ≡ 256 ⌝ }
+fn cells_room() -> [i64; rule::MOST_CELLS]
+    ensures { λ r. ⌜ length r ≡ mostCells ⌝ }
 {
-    [0; 256]
+    [0; rule::MOST_CELLS]
 }
 
 // An array for three levels of up to 256 entries.
-fn levels_room() -> [i64; 768]
+fn levels_room() -> [i64; 3 * rule::MOST_CELLS]
     ensures { λ r. ⌜ length r ≡ 768 ⌝ }
 {
-    [0; 768]
+    [0; 3 * rule::MOST_CELLS]
 }
 
 // The file of the channel that is made of h, e and u, where it is made. The rows v, q and f are filled on the way.
@@ -155,7 +155,7 @@ fn make_rows(
     u: &[i64],
     file: &mut [u8],
 ) -> rule::Answer
-    requires { ⌜ n ≤ 256 ⌝ }
+    requires { ⌜ n ≤ mostCells ⌝ }
     ensures { λ r. ⌜ leavesBytes r (now (file .exit)) ≡ makeRows n x t wanted (now (h .entry)) (now (e .entry)) (now (u .entry)) (now (file .entry)) ⌝ }
 {
     let number = check(n, x, t, wanted, h, e, u, file.len());

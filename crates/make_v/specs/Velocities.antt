@@ -13,7 +13,7 @@ use lib.IntN.{pos}
 use Rattle.whole.specs.Row.{tab, tab-ext, fill-at, Filled, filled-end, filled-long, zeros, padded}
 use Rattle.rule.specs.Rounded.{roundedFloat}
 use Rattle.rule.specs.Rows.{Row, cell, map, all}
-use Rattle.rule.specs.Ranges.{mostReduced}
+use Rattle.rule.specs.Ranges.{mostReduced, mostCells}
 use Rattle.rule.specs.Floats.{whole, _⊕_, _⊗_, _⊘_, withinFloat}
 use Rattle.rule.specs.Refusals.{Outcome, number, numberOf, require, speed}
 use Rattle.rule.specs.declared.Coefficients.{Coefficients}
@@ -71,7 +71,7 @@ module _ (n X : ℕ) (h u : Row) where
       let none : all (withinFloat mostReduced) (tab n (each n X h u)) ≡ false = all-fails (withinFloat mostReduced) (each n X h u) n j l e in
       ap of (refuses n (all (withinFloat mostReduced) (tab n (each n X h u))) speed 7 _ (rw none) (λ z. omega arith))
 
-  module _ {j : ℕ} {before row : List Float} (m : n ≤ 256) (p : length before ≡ 256) (f : Filled (each n X h u) before j row) (a : j ≤ n) (b : n ≤ j) (i : all (withinFloat mostReduced) (tab j (each n X h u)) ≡ true) where
+  module _ {j : ℕ} {before row : List Float} (m : n ≤ mostCells) (p : length before ≡ mostCells) (f : Filled (each n X h u) before j row) (a : j ≤ n) (b : n ≤ j) (i : all (withinFloat mostReduced) (tab j (each n X h u)) ≡ true) where
     filled : floats n row ≡ tab n (each n X h u)
     filled = tab-ext n (λ k. getD row k nan) (each n X h u) (λ k l. ap (λ t. getD t k nan) (filled-end f a b) ∙ fill-at n (each n X h u) before k nan l)
 

@@ -34,21 +34,21 @@ fn reduced_velocity(n: usize, x: u64, h: &[i64], u: &[i64], j: usize) -> f64
 // 0 and V of each cell; or refusal 7, and zeros.
 pub struct Velocities {
     pub number: u64,
-    pub v: [i64; 256],
+    pub v: [i64; rule::MOST_CELLS],
 }
 
 pub fn reduced_velocities(n: usize, x: u64, h: &[i64], u: &[i64]) -> Velocities
     requires { ⌜ Given n x (now h) (now u) ⌝ }
     ensures { λ r. ⌜ r ≡ velocitiesOf n (reducedVelocities n x (now (h .entry)) (now (u .entry))) ⌝ }
 {
-    let mut unrounded = [0.0; 256];
+    let mut unrounded = [0.0; rule::MOST_CELLS];
     let mut j = 0;
     while j < n {
         let v = reduced_velocity(n, x, h, u, j);
         if !round::within(v, rule::MOST_REDUCED) {
             return Velocities {
                 number: 7,
-                v: [0; 256],
+                v: [0; rule::MOST_CELLS],
             };
         }
         unrounded[j] = v;

@@ -7,6 +7,7 @@ use mathlib.Core.List.{List}
 use Rattle.rule.specs.declared.Answer.{Answer}
 use Rattle.rule.specs.Refusals.{Refusal, shape, counts, value, depth, dominance, pivot, speed, height, flux, unsettled, complete, fileLength, fileEdition, fileOffsets, bufferLength, number, Outcome, refused, done, _>>=_, require, at}
 use Rattle.rule.specs.Calls.{Called, called, packed}
+use Rattle.rule.specs.Ranges.{mostSteps}
 use Rattle.writer.specs.Left.{leavesBytes}
 use Rattle.checks.specs.Numbers.{Outside}
 use Rattle.stage.specs.Met.{Met}
@@ -14,7 +15,7 @@ use Rattle.stage.specs.Met.{Met}
 pub record Small (a : Answer) : Type 0 where
   pub number : a .number ≤ 16
   pub stage : a .stage ≤ 10
-  pub count : a .count ≤ 1_000_000
+  pub count : a .count ≤ mostSteps
 
 pub number-small : (r : Refusal) → number r ≤ 16
 unfolding number
@@ -69,7 +70,7 @@ staged-met least most (done a) h = tt
 -- what is done has a count to a million
 abbrev pub Counted : {A : Type 0} → (A → ℕ) → Outcome A → Type 0
 Counted count (refused r k) = Unit {0}
-Counted count (done a) = count a ≤ 1_000_000
+Counted count (done a) = count a ≤ mostSteps
 
 counted-none : {A : Type 0} (m : Outcome A) → Counted (λ _. 0) m
 counted-none (refused r k) = tt

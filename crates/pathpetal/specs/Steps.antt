@@ -12,6 +12,7 @@ use Rattle.rule.specs.Step.{Trial, Stepped, predictor, raised, hastened, tried,
 use Rattle.rule.specs.Filter.{smoothed, smoothedReduced, filter}
 use Rattle.rule.specs.Run.{Ran, whole, paused, runOn, runFor}
 use Rattle.rule.specs.Calls.{plainly, ended, ran, stepCall, filterCall, runForCall}
+use Rattle.rule.specs.Ranges.{mostSteps}
 use Rattle.checks.specs.Numbers.{number-of-done}
 use Rattle.checks.specs.Allowed.{allowed-of}
 use Rattle.stage.specs.Met.{tried-met, checked-met}
@@ -68,10 +69,10 @@ filter-small c =
 
 -- how a run ended, and its count
 pub record Few (most : ℕ) (it : Ran) : Type 0 where
-  pub ending : (count : ℕ) → count ≤ 1_000_000 → Small (ended count (it .ending))
+  pub ending : (count : ℕ) → count ≤ mostSteps → Small (ended count (it .ending))
   pub count : it .count ≤ most
 
-ends-small : (b : Bool) (count : ℕ) → count ≤ 1_000_000 → Small (ended count (cond b whole paused))
+ends-small : (b : Bool) (count : ℕ) → count ≤ mostSteps → Small (ended count (cond b whole paused))
 unfolding ended
 ends-small true count h = record { number = omega arith; stage = omega arith; count = h }
 ends-small false count h = record { number = omega arith; stage = omega arith; count = h }

@@ -4,6 +4,7 @@ ghost use mathlib.Core.Path.{_≡_};
 ghost use Prim.Native.Nat.{_≤_};
 ghost use Rattle.rule.specs.Channel.{channel};
 ghost use Rattle.rule.specs.Calls.{stepCall, ended, runCall, runForCall};
+ghost use Rattle.rule.specs.Ranges.{mostCells};
 ghost use Rattle.answers.specs.Stages.{leaves};
 ghost use Rattle.run.specs.Runs.{nothing, fewerOf, endingOf};
 
@@ -21,10 +22,10 @@ fn still_step(
     q: &mut [i64],
     f: &mut [i64],
 ) -> rule::Answer
-    requires { ⌜ n ≤ 256 ⌝ }
+    requires { ⌜ n ≤ mostCells ⌝ }
     ensures { λ r. ⌜ leaves r (channel n x t (now (accepted .exit)) wanted (now (h .entry)) (now (e .exit)) (now (u .exit)) (now (v .exit)) (now (q .exit)) (now (f .exit))) ≡ stepCall (channel n x t (now (accepted .entry)) wanted (now (h .entry)) (now (e .entry)) (now (u .entry)) (now (v .entry)) (now (q .entry)) (now (f .entry))) (nothing n) ⌝ }
 {
-    let s = [0i64; 256];
+    let s = [0i64; rule::MOST_CELLS];
     step::step(n, x, t, accepted, wanted, h, e, u, v, q, f, &s[..n])
 }
 

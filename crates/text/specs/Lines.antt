@@ -14,6 +14,7 @@ use Rattle.rule.specs.Channel.{Channel}
 use Rattle.rule.specs.Checks.{isComplete}
 use Rattle.rule.specs.Refusals.{Refusal, refused, number}
 use Rattle.rule.specs.Line.{decimal, signedDecimal, channelLine, line}
+use Rattle.rule.specs.Ranges.{mostCells, mostHeight}
 use Rattle.text.specs.Decimal.{length-decimal, length-signed}
 use Rattle.text.specs.Sums.{sum-within}
 
@@ -52,11 +53,11 @@ refusedOf number = (114 ∷ 101 ∷ 102 ∷ 117 ∷ 115 ∷ 101 ∷ 100 ∷ 32 �
 
 -- what a channel's line says, of a size as a file may hold it
 pub record Printable (n accepted wanted : ℕ) (e : Row) : Type 0 where
-  pub cells : n ≤ 256
+  pub cells : n ≤ mostCells
   pub accepted-held : accepted < 256 ^ 4
   pub wanted-held : wanted < 256 ^ 4
-  pub e-long : length e ≤ 256
-  pub e-small : Within 20_000_000 (length e) e
+  pub e-long : length e ≤ mostCells
+  pub e-small : Within mostHeight (length e) e
 
 -- how long they are
 pub length-count : (n b : ℕ) → length (countText n b) ≡ length (decimal n) + 1
@@ -89,9 +90,9 @@ unfolding stateText
 length-state accepted wanted = length-cond (eqb accepted wanted) doneWord openWord refl refl
 
 -- heights as a file may hold them: their sum has at most ten digits
-module _ (e : Row) (w : Within 20_000_000 (length e) e) (l : length e ≤ 256) where
-  sum-most : natAbs (sum e) ≤ 256 * 20_000_000
-  sum-most = sum-within 20_000_000 256 e w l
+module _ (e : Row) (w : Within mostHeight (length e) e) (l : length e ≤ mostCells) where
+  sum-most : natAbs (sum e) ≤ mostCells * mostHeight
+  sum-most = sum-within mostHeight mostCells e w l
 
   pub digits-short : length (signedDecimal (sum e)) ≤ 11
   digits-short = length-signed 9 (sum e) (omega (arith, sum-most))

@@ -7,6 +7,7 @@ ghost use lib.ListN.{length};
 ghost use Rattle.whole.specs.Row.{Within};
 ghost use Rattle.rule.specs.Rows.{sum};
 ghost use Rattle.rule.specs.Line.{decimal, signedDecimal};
+ghost use Rattle.rule.specs.Ranges.{mostCells, mostHeight};
 ghost use Rattle.little.specs.Written.{written};
 ghost use Rattle.text.specs.Put.{Put};
 ghost use Rattle.text.specs.Lines.{countText, countsText, stateText, sumText, lineOf, refusedOf, Printable};
@@ -57,7 +58,7 @@ fn put_signed(d: &mut [u8], at: usize, z: i64) -> usize
 
 // The sum of heights.
 fn sum_of(row: &[i64]) -> i64
-    requires { ⌜ (length (now row) ≤ 256) × Within 20_000_000 (length (now row)) (now row) ⌝ }
+    requires { ⌜ (length (now row) ≤ mostCells) × Within mostHeight (length (now row)) (now row) ⌝ }
     ensures { λ r. ⌜ r ≡ sum (now (row .entry)) ⌝ }
 {
     let mut total: i64 = 0;
@@ -100,7 +101,7 @@ fn put_state(d: &mut [u8], at: usize, accepted: u64, wanted: u64) -> usize
 }
 
 fn put_sum(d: &mut [u8], at: usize, e: &[i64]) -> usize
-    requires { ⌜ (at + 12 ≤ length (now d)) × (length (now e) ≤ 256) × Within 20_000_000 (length (now e)) (now e) ⌝ }
+    requires { ⌜ (at + 12 ≤ length (now d)) × (length (now e) ≤ mostCells) × Within mostHeight (length (now e)) (now e) ⌝ }
     ensures { λ r. ⌜ Put (now (d .entry)) at (sumText (now (e .entry))) (now (d .exit)) r ⌝ }
 {
     let next = put_signed(d, at, sum_of(e));

@@ -6,7 +6,7 @@ use native.Mathlib.Omega.{arith}
 use borrow.Author.Needs.{needs}
 use borrow.Author.Tests.{not-true, not-false}
 use lib.ListN.{length}
-use Rattle.rule.specs.Ranges.{cellsAllowed}
+use Rattle.rule.specs.Ranges.{cellsAllowed, leastCells, mostCells}
 use Rattle.rule.specs.Channel.{Channel, channel, rows, filled, renewed}
 use Rattle.rule.specs.Calls.{fit}
 use Rattle.rows.specs.Firsts.{firsts}
@@ -31,7 +31,7 @@ shaped-is c = c .shaped .ensures
 tests : (c : tie.Else1) → (cellsAllowed (lent (c .before) .N) ≡ true) × (fit (lent (c .before)) (lent (c .before) .N) ≡ true)
 tests c = both _ _ (sym (shaped-is (c .before)) ∙ not-false _ (c .if1 .left))
 
-cells : (c : tie.Else1) → (8 ≤ lent (c .before) .N) × (lent (c .before) .N ≤ 256)
+cells : (c : tie.Else1) → (leastCells ≤ lent (c .before) .N) × (lent (c .before) .N ≤ mostCells)
 cells c = cells-few (lent (c .before) .N) (tests c .0)
 
 long : (c : tie.Else1) → Lengths (lent (c .before) .N) (lent (c .before) .h) (lent (c .before) .e) (lent (c .before) .u) (lent (c .before) .v) (lent (c .before) .Q) (lent (c .before) .F)
@@ -39,7 +39,7 @@ unfolding fit rows
 long c = lengths-of _ _ _ _ _ _ _ (tests c .1)
 
 -- past the work
-arrays : (c : tie.After-work-out) → (length (c .work-out .result .v) ≡ 256) × ((length (c .work-out .result .q) ≡ 256) × (length (c .work-out .result .f) ≡ 256))
+arrays : (c : tie.After-work-out) → (length (c .work-out .result .v) ≡ mostCells) × ((length (c .work-out .result .q) ≡ mostCells) × (length (c .work-out .result .f) ≡ mostCells))
 arrays c = let ok = c .work-out .ok in search needs
 
 shaped-requires : tie.Need-shaped-requires

@@ -9,6 +9,7 @@ use mir.Syntax.{w64}
 use mir.Val.{ofZ}
 use Rattle.whole.specs.Expr.{E, loc, var, add, need, rd-is, raw-is}
 use Rattle.rule.specs.Rows.{sum, cell}
+use Rattle.rule.specs.Ranges.{mostCells, mostHeight}
 use Rattle.text.specs.Sums.{sum-small, sum-more}
 use Rattle.text.proofs.sum_of.Statement.{statement}
 use Rattle.text.proofs.sum_of.Tie as tie
@@ -22,13 +23,13 @@ abbrev μ-loop : tie.MeasureT-loop
 abbrev acc : tie.At-loop Inv-loop μ-loop → E
 acc c =
     let row = c .before .args .row .now in
-    loc (c .loop .total) (sum (take (c .loop .j) row)) (256 * 20_000_000) (c .loop .inv .1)
-    (sum-small 20_000_000 256 row (length row) (c .loop .j) (c .before .pre .1) (c .loop .inv .0) (c .before .pre .0))
+    loc (c .loop .total) (sum (take (c .loop .j) row)) (mostCells * mostHeight) (c .loop .inv .1)
+    (sum-small mostHeight mostCells row (length row) (c .loop .j) (c .before .pre .1) (c .loop .inv .0) (c .before .pre .0))
 
 abbrev next : tie.In-loop Inv-loop μ-loop → E
 next c =
     let row = c .before .before .args .row .now in
-    add (acc (c .before)) (var (cell row (c .before .loop .j)) 20_000_000 (c .before .before .pre .1 .at (c .before .loop .j) (c .loop-test .taken)))
+    add (acc (c .before)) (var (cell row (c .before .loop .j)) mostHeight (c .before .before .pre .1 .at (c .before .loop .j) (c .loop-test .taken)))
 
 loop-holds : tie.Need-loop-holds Inv-loop μ-loop
 unfolding sum
