@@ -6,7 +6,6 @@ use native.Mathlib.Omega.{arith}
 use lib.Dec.{eqb, lit≤}
 use lib.ListN.{length}
 use Rattle.whole.specs.Row.{length-tab}
-use Rattle.rule.specs.declared.Answer.{Answer}
 use Rattle.rule.specs.Rounded.{roundedFloat}
 use Rattle.rule.specs.Rows.{Row}
 use Rattle.rule.specs.Ranges.{cellsAllowed}
@@ -14,9 +13,8 @@ use Rattle.rule.specs.Channel.{Channel, channel, filled, renewed}
 use Rattle.rule.specs.Refusals.{shape, speed, flux, number, Outcome, refused, done, numberOf, _>>=_, require}
 use Rattle.rule.specs.Flux.{fluxes}
 use Rattle.rule.specs.Acceleration.{accelerations}
-use Rattle.rule.specs.Checks.{wet}
 use Rattle.rule.specs.Make.{makeChecked, make, reducedVelocities}
-use Rattle.rule.specs.Calls.{Called, called, plainly, fit, makeCall}
+use Rattle.rule.specs.Calls.{plainly, fit, makeCall}
 use Rattle.rows.specs.All.{map-tab}
 use Rattle.rows.specs.Firsts.{firsts, firsts-padded}
 use Rattle.flux.specs.Faces.{length-fluxes}

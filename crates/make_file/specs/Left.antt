@@ -15,9 +15,9 @@ use Rattle.rule.specs.Make.{make}
 use Rattle.rule.specs.Bytes.{rowAt}
 use Rattle.rule.specs.File.{fileOf, lengthOf}
 use Rattle.rule.specs.Calls.{Called, called, plainly, fit, makeCall, rowIn, holds}
-use Rattle.checks.specs.Tests.{both, lengths-are}
+use Rattle.checks.specs.Tests.{both}
 use Rattle.checks.specs.Numbers.{number-not-0}
-use Rattle.checks.specs.Facts.{Lengths, cells-few}
+use Rattle.checks.specs.Facts.{Lengths, cells-few, lengths-pass}
 use Rattle.checks.specs.Made.{Makeable}
 use Rattle.answers.specs.Stages.{leaves}
 use Rattle.reader.specs.Reader.{fitsIn}
@@ -44,9 +44,7 @@ fitting-of n X T wanted h e u s p =
 -- lent rows of a channel's lengths are not refused
 fits : (c : Channel) → Lengths (c .N) (c .h) (c .e) (c .u) (c .v) (c .Q) (c .F) → fit c (c .N) ≡ true
 unfolding fit rows
-fits c l =
-    sym (lengths-are (c .N) (c .h) (c .e) (c .u) (c .v) (c .Q) (c .F))
-    ∙ rw (eq-eqb _ _ (l .h-long), eq-eqb _ _ (l .e-long), eq-eqb _ _ (l .u-long), eq-eqb _ _ (l .v-long), eq-eqb _ _ (l .Q-long), eq-eqb _ _ (l .F-long))
+fits c l = lengths-pass (c .N) (c .h) (c .e) (c .u) (c .v) (c .Q) (c .F) l
 
 -- an outcome m of a call on the lent channel, told by its answer r and by the channel c that it leaves
 module _ (lent c : Channel) (r : Answer) (s : List ℕ) where

@@ -1,27 +1,22 @@
 -- Making over the bytes of a channel file: its order, 1 to 5, then 15, then the rest of make. Assumes nothing.
 use Prim.Native.Nat.{ℕ}
-use mathlib.Core.Path.{_≡_, refl, sym, _∙_, ap, subst}
+use mathlib.Core.Path.{_≡_, refl, sym, _∙_, ap}
 use mathlib.Core.Bool.{Bool, true, false, cond, _&&_}
 use mathlib.Core.List.{List}
-use native.Mathlib.Omega.{arith}
 use borrow.Author.Tests.{ne-eqb, eq-eqb, eqb-true}
-use lib.Dec.{eqb}
+use lib.Dec.{eqb, lit≤}
 use lib.ListN.{length}
-use Rattle.rule.specs.declared.Answer.{Answer}
 use Rattle.rule.specs.Rows.{Row}
-use Rattle.rule.specs.Ranges.{cellsAllowed, countsAllowed}
+use Rattle.rule.specs.Ranges.{cellsAllowed}
 use Rattle.rule.specs.Channel.{Channel}
-use Rattle.rule.specs.Refusals.{Outcome, refused, done, number, numberOf, _>>=_, require, shape, bufferLength}
-use Rattle.rule.specs.Checks.{wet}
+use Rattle.rule.specs.Refusals.{Outcome, refused, done, number, numberOf, _>>=_, require, bufferLength}
 use Rattle.rule.specs.Make.{makeChecked, make}
 use Rattle.rule.specs.File.{fileOf, lengthOf}
 use Rattle.rule.specs.Calls.{Called, called, rowIn, holds, makeFile}
-use Rattle.checks.specs.Numbers.{number-not-0, done-of, Outside, outside-last, refused-of, passed-last}
-use Rattle.checks.specs.Facts.{valuesAllowed}
-use Rattle.checks.specs.Order.{order-outside, wet-outside}
-use Rattle.checks.specs.Made.{Makeable, shapePasses, makeChecked-is, makeable-of}
-use Rattle.answers.specs.Stages.{refusal}
-use Rattle.reader.specs.Opened.{first-done}
+use Rattle.checks.specs.Numbers.{number-not-0, done-of, regroup, both-done, Outside, outside-met, refuses-then, refuses-last, passed-last}
+use Rattle.checks.specs.Met.{make-checked-met}
+use Rattle.checks.specs.Made.{Makeable, makeable-of}
+use Rattle.answers.specs.Stages.{early, refused-first, unfit-call}
 use Rattle.writer.specs.Left.{leavesBytes}
 
 -- the first of two numbers that is not 0
@@ -58,16 +53,6 @@ pub buffer-0 : (n room : ℕ) → room ≡ lengthOf n → 0 ≡ numberOf (buffer
 unfolding bufferChecked require numberOf
 buffer-0 n room z = rw (eq-eqb room (lengthOf n) z)
 
-regroup : {A B C : Type 0} (m : Outcome A) (f : A → Outcome B) (g : B → Outcome C) → (m >>= λ a. f a >>= g) ≡ ((m >>= f) >>= g)
-unfolding _>>=_
-regroup (refused r k) f g = refl
-regroup (done a) f g = refl
-
-outside-then : {A B : Type 0} (m : Outcome A) (f : A → Outcome B) → Outside m → ((a : A) → Outside (f a)) → Outside (m >>= f)
-unfolding _>>=_
-outside-then (refused r k) f h g = h
-outside-then (done a) f h g = g a
-
 module _ (n X T wanted : ℕ) (h e u : Row) where
   pub tested-is : (room one other : ℕ) → one ≡ numberOf (makeChecked n X T wanted h e u) → other ≡ numberOf (bufferChecked n room) → firstOf one other ≡ numberOf (tested n X T wanted h e u room)
   unfolding tested
@@ -75,27 +60,23 @@ module _ (n X T wanted : ℕ) (h e u : Row) where
 
   -- a refusal of an input or of a buffer has stage 0
   tested-outside : (room : ℕ) → Outside (tested n X T wanted h e u room)
-  unfolding tested bufferChecked
+  unfolding tested bufferChecked number
   tested-outside room =
-      outside-then (makeChecked n X T wanted h e u) _
-      (subst Outside (sym (makeChecked-is n X T wanted h e u)) (order-outside (shapePasses n h e u) (countsAllowed X T wanted 0) (valuesAllowed h e u) (wet n X h e) (wet-outside n X h e)))
-      (λ _. outside-last (eqb room (lengthOf n)) bufferLength)
+      refuses-then (λ k. eqb k 10 ≡ false) (makeChecked n X T wanted h e u) _ (outside-met 1 5 (makeChecked n X T wanted h e u) (lit≤ tt) (make-checked-met n X T wanted h e u))
+      (λ _. refuses-last (λ k. eqb k 10 ≡ false) (eqb room (lengthOf n)) bufferLength refl)
 
   -- what the tests let pass
   pub passed-both : (room : ℕ) → numberOf (tested n X T wanted h e u room) ≡ 0 → Makeable n X T wanted h e u × (room ≡ lengthOf n)
   unfolding tested bufferChecked
   passed-both room z =
-      let p = first-done (makeChecked n X T wanted h e u) (λ _. bufferChecked n room) z in
+      let p = both-done (makeChecked n X T wanted h e u) (λ _. bufferChecked n room) z in
       (makeable-of n X T wanted h e u (p .0), eqb-true room (lengthOf n) (passed-last (eqb room (lengthOf n)) bufferLength (p .1)))
 
   module _ (s : List ℕ) where
     -- a test refuses
-    pub rows-refused : (k : ℕ) (r : Answer) → r ≡ refusal k 0 → k ≡ numberOf (tested n X T wanted h e u (length s)) → (k ≡ 0 → ⊥) → leavesBytes r s ≡ makeRows n X T wanted h e u s
-    unfolding makeRows filed called _>>=_
-    rows-refused k r a p z =
-        let y = refused-of (tested n X T wanted h e u (length s)) (tested-outside (length s)) (λ i. z (p ∙ i)) in
-        let q : k ≡ number (y .why) = p ∙ sym (y .numbered) in
-        rw (y .is) (ap (λ b. leavesBytes b s) (a ∙ ap (λ j. refusal j 0) q))
+    pub rows-refused : (k : ℕ) → k ≡ numberOf (tested n X T wanted h e u (length s)) → (k ≡ 0 → ⊥) → leavesBytes (early k) s ≡ makeRows n X T wanted h e u s
+    unfolding makeRows filed
+    rows-refused k p z = refused-first s (λ _. 0) fileOf k (tested n X T wanted h e u (length s)) _ (tested-outside (length s)) p z
 
     -- and none does
     pub rows-pass : numberOf (tested n X T wanted h e u (length s)) ≡ 0 → filed s (make n X T wanted h e u) ≡ makeRows n X T wanted h e u s
@@ -103,19 +84,13 @@ module _ (n X T wanted : ℕ) (h e u : Row) where
     rows-pass z = rw (done-of (tested n X T wanted h e u (length s)) z)
 
 -- 1, of N and of rows in bytes
-unfit : (s : List ℕ) (r : Answer) (a b : Bool) (m : Outcome Channel) → r ≡ refusal 1 0 → (a ≡ false → m ≡ refused shape 0) → a && b ≡ false → leavesBytes r s ≡ filed s (require b shape >>= λ _. m)
-unfolding require _>>=_ filed called number
-unfit s r a false m e p z = ap (λ b. leavesBytes b s) e
-unfit s r false true m e p z = rw (p refl) (ap (λ b. leavesBytes b s) e)
-unfit s r true true m e p z = let y : _≡_ {A = ℕ} 0 1 = cc z in absurd (omega arith)
-
 module _ (n X T wanted : ℕ) (h e u s : List ℕ) where
   abbrev allHold : Bool
   allHold = holds h n && holds e n && holds u n
 
-  pub file-unfit : (r : Answer) → r ≡ refusal 1 0 → cellsAllowed n && allHold ≡ false → leavesBytes r s ≡ makeFile n X T wanted h e u s
-  unfolding makeFile filed makeChecked require _>>=_
-  file-unfit r a z = unfit s r (cellsAllowed n) allHold _ a (λ i. rw i) z
+  pub file-unfit : cellsAllowed n && allHold ≡ false → leavesBytes (early 1) s ≡ makeFile n X T wanted h e u s
+  unfolding makeFile makeChecked require _>>=_
+  file-unfit z = unfit-call s (λ _. 0) fileOf (cellsAllowed n) allHold _ (λ i. rw i) z
 
   pub file-fit : allHold ≡ true → makeRows n X T wanted (rowIn h) (rowIn e) (rowIn u) s ≡ makeFile n X T wanted h e u s
   unfolding makeFile makeRows filed tested bufferChecked require _>>=_

@@ -8,7 +8,6 @@ ghost use Rattle.rule.specs.Refusals.{numberOf};
 ghost use Rattle.rule.specs.File.{lengthOf};
 ghost use Rattle.rule.specs.Calls.{holds, makeFile};
 ghost use Rattle.rule.specs.Make as rule;
-ghost use Rattle.answers.specs.Stages.{refusal};
 ghost use Rattle.checks.specs.Facts.{Lengths};
 ghost use Rattle.writer.specs.Left.{leavesBytes};
 ghost use Rattle.make_file.specs.Order.{firstOf, bufferChecked, tested, filed, makeRows};
@@ -18,13 +17,11 @@ ghost use Rattle.make_file.specs.Left.{Fitting};
 fn shape_passes(n: u64, h: &[u8], e: &[u8], u: &[u8]) -> bool
     ensures { λ r. ⌜ r ≡ cellsAllowed n && (holds (now (h .entry)) n && holds (now (e .entry)) n && holds (now (u .entry)) n) ⌝ }
 {
-    if n < 8 {
+    let cells = n as usize;
+    if !checks::cells_allowed(cells) {
         return false;
     }
-    if n > 256 {
-        return false;
-    }
-    let bytes = 4 * n as usize;
+    let bytes = 4 * cells;
     (h.len() == bytes) & (e.len() == bytes) & (u.len() == bytes)
 }
 
@@ -57,17 +54,6 @@ fn check(c: rule::Counts, h: &[i64], e: &[i64], u: &[i64], room: usize) -> u64
     let input = checks::check_made(c, h, e, u);
     let length = check_buffer(c.n, room);
     first(input, length)
-}
-
-// A refusal before any stage.
-fn refused(number: u64) -> rule::Answer
-    ensures { λ r. ⌜ r ≡ refusal number 0 ⌝ }
-{
-    rule::Answer {
-        number,
-        stage: 0,
-        count: 0,
-    }
 }
 
 // An array for a row of up to 256 entries.
@@ -144,7 +130,7 @@ fn make_rows(c: rule::Counts, h: &[i64], e: &[i64], u: &[i64], file: &mut [u8]) 
 {
     let number = check(c, h, e, u, file.len());
     if number != 0 {
-        return refused(number);
+        return answers::refused(number, 0);
     }
     make_fitting(c, h, e, u, file)
 }
@@ -164,7 +150,7 @@ pub fn make(
     ensures { λ r. ⌜ leavesBytes r (now (file .exit)) ≡ makeFile n x t wanted (now (h .entry)) (now (e .entry)) (now (u .entry)) (now (file .entry)) ⌝ }
 {
     if !shape_passes(n, h, e, u) {
-        return refused(1);
+        return answers::refused(1, 0);
     }
     let cells = n as usize;
     let depths = little::read_row4(h, 0, cells);

@@ -4,19 +4,18 @@ use mathlib.Core.Bool.{Bool, true}
 use mathlib.Core.List.{List, []}
 use Rattle.rule.specs.Rows.{Row}
 use Rattle.rule.specs.Channel.{Channel}
-use Rattle.rule.specs.Refusals.{Outcome, refused, done, shape, counts, value, speed, flux, bufferLength}
-use Rattle.rule.specs.Checks.{wet}
+use Rattle.rule.specs.Refusals.{Outcome, refused, done, shape, speed, flux, bufferLength}
 use Rattle.rule.specs.Flux.{fluxes}
 use Rattle.rule.specs.Make.{reducedVelocities, makeChecked, make}
 use Rattle.rule.specs.File.{readWith}
 use Rattle.rule.specs.Calls.{Called, read, rowIn, holds, onFile, stepCall, filterCall, runForCall, checkFile, stepFile, filterFile, runForFile, makeFile}
-use Rattle.checks.specs.Order.{wet-outside}
+use Rattle.checks.specs.Met.{make-checked-met}
 use Rattle.reader.specs.Opened.{read-outside}
-use Rattle.pathpetal.specs.Small.{Small, Staged, staged-require, staged-then, staged-outside, refused-small, uncounted-small}
+use Rattle.pathpetal.specs.Small.{Small, Staged, staged-require, staged-then, staged-refuses, refused-small, uncounted-small}
 use Rattle.pathpetal.specs.Steps.{step-small, filter-small, run-small}
 
 read-staged : (fits : ℕ → Bool) (poured : List Row) (s : List ℕ) → Staged (readWith fits poured s)
-read-staged fits poured s = staged-outside (readWith fits poured s) (read-outside fits poured s)
+read-staged fits poured s = staged-refuses _ (readWith fits poured s) (read-outside fits poured s)
 
 by-read : (f : Channel → Called Channel) (s : List ℕ) (m : Outcome Channel) → Staged m → ((c : Channel) → Small (f c .answer)) → Small (onFile f s m .answer)
 unfolding onFile
@@ -42,14 +41,7 @@ run-answer most s = by-read (runForCall most) s _ (read-staged (λ _. true) [] s
 -- a channel that is made
 module _ (n X T wanted : ℕ) (h e u : Row) where
   checked-staged : Staged (makeChecked n X T wanted h e u)
-  unfolding makeChecked
-  checked-staged =
-      staged-then _ _ (staged-require _ shape) (λ _.
-      staged-then _ _ (staged-require _ counts) (λ _.
-      staged-then _ _ (staged-require _ value) (λ _.
-      staged-then _ _ (staged-require _ value) (λ _.
-      staged-then _ _ (staged-require _ value) (λ _.
-      staged-outside (wet n X h e) (wet-outside n X h e))))))
+  checked-staged = staged-refuses _ (makeChecked n X T wanted h e u) (make-checked-met n X T wanted h e u)
 
   make-staged : Staged (make n X T wanted h e u)
   unfolding make reducedVelocities fluxes

@@ -5,35 +5,16 @@ use mathlib.Core.Path.{_≡_, sym, ap, _∙_, subst}
 use mathlib.Core.Bool.{Bool, true, false, cond}
 use mathlib.Core.List.{List}
 use Rattle.rule.specs.declared.Answer.{Answer}
-use Rattle.rule.specs.Refusals.{Refusal, shape, counts, value, depth, dominance, pivot, speed, height, flux, unsettled, complete, fileLength, fileEdition, fileOffsets, bufferLength, number, Outcome, refused, done, _>>=_, require, at}
+use Rattle.rule.specs.Refusals.{Refusal, number, Outcome, refused, done, _>>=_, require, at}
 use Rattle.rule.specs.Calls.{Called, called, packed}
 use Rattle.rule.specs.Ranges.{mostSteps}
 use Rattle.writer.specs.Left.{leavesBytes}
-use Rattle.checks.specs.Numbers.{Outside}
-use Rattle.stage.specs.Met.{Met}
+use Rattle.checks.specs.Numbers.{number-within, Refuses}
 
 pub record Small (a : Answer) : Type 0 where
   pub number : a .number ≤ 16
   pub stage : a .stage ≤ 10
   pub count : a .count ≤ mostSteps
-
-pub number-small : (r : Refusal) → number r ≤ 16
-unfolding number
-number-small shape = omega arith
-number-small counts = omega arith
-number-small value = omega arith
-number-small depth = omega arith
-number-small dominance = omega arith
-number-small pivot = omega arith
-number-small speed = omega arith
-number-small height = omega arith
-number-small flux = omega arith
-number-small unsettled = omega arith
-number-small complete = omega arith
-number-small fileLength = omega arith
-number-small fileEdition = omega arith
-number-small fileOffsets = omega arith
-number-small bufferLength = omega arith
 
 -- a refusal has a stage to 10
 abbrev pub Staged : {A : Type 0} → Outcome A → Type 0
@@ -59,13 +40,9 @@ pub staged-cond : {A : Type 0} (b : Bool) (x y : Outcome A) → Staged x → Sta
 staged-cond true x y p q = p
 staged-cond false x y p q = q
 
-pub staged-outside : {A : Type 0} (m : Outcome A) → Outside m → Staged m
-staged-outside (refused r k) h = omega arith
-staged-outside (done a) h = tt
-
-pub staged-met : {A : Type 0} (least most : ℕ) (m : Outcome A) → Met least most m → Staged m
-staged-met least most (refused r k) h = omega (arith, h .0)
-staged-met least most (done a) h = tt
+pub staged-refuses : {A : Type 0} (Such : ℕ → Type 0) (m : Outcome A) → Refuses Such m → Staged m
+staged-refuses Such (refused r k) h = omega (arith, h .0)
+staged-refuses Such (done a) h = tt
 
 -- what is done has a count to a million
 abbrev pub Counted : {A : Type 0} → (A → ℕ) → Outcome A → Type 0
@@ -87,7 +64,7 @@ counted-cond count false x y p q = q
 
 -- so that the answer of a call is small
 pub refused-small : (r : Refusal) (k : ℕ) → k ≤ 10 → Small (record { number = number r; stage = k; count = 0 })
-refused-small r k h = record { number = number-small r; stage = h; count = omega arith }
+refused-small r k h = record { number = omega (arith, number-within r .1); stage = h; count = omega arith }
 
 pub called-small : {A B : Type 0} (lent : A) (count : B → ℕ) (after : B → A) (o : Outcome B) → Staged o → Counted count o → Small (called lent count after o .answer)
 unfolding called

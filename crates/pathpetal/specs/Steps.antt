@@ -13,17 +13,18 @@ use Rattle.rule.specs.Filter.{smoothed, smoothedReduced, filter}
 use Rattle.rule.specs.Run.{Ran, whole, paused, runOn, runFor}
 use Rattle.rule.specs.Calls.{plainly, ended, ran, stepCall, filterCall, runForCall}
 use Rattle.rule.specs.Ranges.{mostSteps}
-use Rattle.checks.specs.Numbers.{number-of-done}
+use Rattle.checks.specs.Numbers.{number-of-done, number-within}
 use Rattle.checks.specs.Allowed.{allowed-of}
-use Rattle.stage.specs.Met.{tried-met, checked-met}
+use Rattle.checks.specs.Met.{checked-met}
+use Rattle.stage.specs.Met.{tried-met}
 use Rattle.run.specs.Runs.{nothing, fewerOf, fewer-fits}
 use Rattle.on_file.specs.Stays.{took, ceased}
-use Rattle.pathpetal.specs.Small.{Small, Staged, staged-require, staged-then, staged-at, staged-cond, staged-met, Counted, counted-then, counted-cond, number-small, refused-small, called-small, uncounted-small}
+use Rattle.pathpetal.specs.Small.{Small, Staged, staged-require, staged-then, staged-at, staged-cond, staged-refuses, Counted, counted-then, counted-cond, refused-small, called-small, uncounted-small}
 
 ready-staged : (c : Channel) (poured : List Row) → Staged (ready c poured)
 unfolding ready
 ready-staged c poured =
-    staged-then (checked c poured) _ (staged-met 1 5 (checked c poured) (checked-met c poured)) (λ _. staged-require (not (isComplete c)) complete)
+    staged-then (checked c poured) _ (staged-refuses _ (checked c poured) (checked-met c poured)) (λ _. staged-require (not (isComplete c)) complete)
 
 -- corrections of a step, from correction k on
 module _ (c : Channel) (s : Row) where
@@ -43,7 +44,7 @@ module _ (c : Channel) (s : Row) where
   unfolding prediction stage
   prediction-staged =
       let w = predictor (c .accepted) in
-      staged-met 4 9 (tried c (raised c s w (c .Q)) (hastened c w (c .F))) (tried-met c (raised c s w (c .Q)) (hastened c w (c .F)))
+      staged-refuses _ (tried c (raised c s w (c .Q)) (hastened c w (c .F))) (tried-met c (raised c s w (c .Q)) (hastened c w (c .F)))
 
   step-staged : Staged (step c s)
   unfolding step
@@ -65,7 +66,7 @@ filter-small c =
     let e = smoothed (c .N) (c .e) in
     let v = smoothedReduced (c .N) (c .v) in
     uncounted-small c _ (filter c)
-    (staged-then (ready c []) _ (ready-staged c []) (λ _. staged-then (tried c e v) _ (staged-met 4 9 (tried c e v) (tried-met c e v)) (λ _. tt)))
+    (staged-then (ready c []) _ (ready-staged c []) (λ _. staged-then (tried c e v) _ (staged-refuses _ (tried c e v) (tried-met c e v)) (λ _. tt)))
 
 -- how a run ended, and its count
 pub record Few (most : ℕ) (it : Ran) : Type 0 where
@@ -81,7 +82,7 @@ by-step : (left count : ℕ) (c : Channel) (o : Outcome Stepped) → step c (not
 unfolding ended
 by-step left count c (refused r k) p g next =
     subst (Few (count + suc left)) (sym (ceased left count c r k p))
-    (record { ending = λ n h. record { number = number-small r; stage = g; count = h }; count = omega arith })
+    (record { ending = λ n h. record { number = omega (arith, number-within r .1); stage = g; count = h }; count = omega arith })
 by-step left count c (done t) p g next =
     let w = next (t .channel) in
     subst (Few (count + suc left)) (sym (took left count c t p)) (record { ending = w .ending; count = omega (arith, w .count) })
@@ -103,4 +104,4 @@ pub run-small : (most : ℕ) (c : Channel) → Small (runForCall most c .answer)
 unfolding runForCall runFor fewerOf
 run-small most c =
     let left = c .wanted - c .accepted in
-    by-checks c (fewerOf most left) (checked c []) refl (staged-met 1 5 (checked c []) (checked-met c [])) (fewer-fits most left)
+    by-checks c (fewerOf most left) (checked c []) refl (staged-refuses _ (checked c []) (checked-met c [])) (fewer-fits most left)

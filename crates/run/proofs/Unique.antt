@@ -1,6 +1,5 @@
 -- Running: the contracts of `run` and `run_for` settle their outcomes. Two outcomes that a contract permits of one call have
 -- the same answer, and leave the same in every lent value. `Post` is the contract itself, as the check reads it. Assumes nothing.
-use Prim.Native.Nat.{ℕ}
 use mathlib.Core.Path.{_≡_, sym, _∙_, ap}
 use contract.Lifetimes.{Lfts}
 use denote.Ref.{now}

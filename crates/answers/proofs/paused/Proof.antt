@@ -2,7 +2,6 @@
 use mathlib.Core.Path.{sym, _∙_, ap}
 use borrow.Author.Needs.{needs}
 use lib.Dec.{lit≤}
-use Rattle.rule.specs.declared.Answer.{Answer}
 use Rattle.rule.specs.Calls.{moreSteps}
 use Rattle.answers.specs.Stages.{stage-high}
 use Rattle.answers.proofs.paused.Statement.{statement}

@@ -2,7 +2,7 @@
 use mathlib.Core.Path.{_≡_, sym, _∙_}
 use mathlib.Core.List.{[]}
 use borrow.Author.Needs.{needs}
-use Rattle.rule.specs.Channel.{Channel, channel}
+use Rattle.rule.specs.Channel.{Channel}
 use Rattle.rule.specs.Counted.{counted}
 use Rattle.rule.specs.Refusals.{numberOf}
 use Rattle.rule.specs.Checks.{checked}

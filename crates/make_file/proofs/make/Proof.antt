@@ -5,6 +5,7 @@ use borrow.Author.Tests.{not-true, not-false}
 use lib.ListN.{take}
 use lib.Seq.{length-take-le}
 use Rattle.rule.specs.Calls.{rowIn}
+use Rattle.writer.specs.Left.{leavesBytes}
 use Rattle.make_file.specs.Order.{makeRows, file-unfit, file-fit}
 use Rattle.make_file.specs.Left.{Held, held-of, row-read}
 use borrow.Author.Needs.{needs}
@@ -44,7 +45,8 @@ returns : tie.Need-returns
 returns c =
     let k = c .before .before in
     let a = k .before .before .before .before .before .args in
-    file-unfit (a .n) (a .x) (a .t) (a .wanted) (a .h .now) (a .e .now) (a .u .now) (a .file .now) (c .refused .result) (c .refused .ensures) (sym (k .shape-passes .ensures) ∙ not-true _ (c .before .if1 .taken))
+    (λ i. leavesBytes (c .refused .ensures i) (a .file .now))
+    ∙ file-unfit (a .n) (a .x) (a .t) (a .wanted) (a .h .now) (a .e .now) (a .u .now) (a .file .now) (sym (k .shape-passes .ensures) ∙ not-true _ (c .before .if1 .taken))
 
 read-row4-requires : tie.Need-read-row4-requires
 read-row4-requires c κs =

@@ -2,6 +2,7 @@
 use mathlib.Core.Path.{_≡_, sym, _∙_}
 use lib.ListN.{length}
 use Rattle.rule.specs.Refusals.{numberOf}
+use Rattle.writer.specs.Left.{leavesBytes}
 use Rattle.make_file.specs.Order.{tested, passed-both, rows-refused, rows-pass}
 use Rattle.make_file.specs.Left.{fitting-of}
 use borrow.Author.Needs.{needs}
@@ -25,7 +26,8 @@ returns : tie.Need-returns
 returns c =
     let k = c .before .before in
     let a = k .before .before .args in
-    rows-refused (a .c .n) (a .c .x) (a .c .t) (a .c .wanted) (a .h .now) (a .e .now) (a .u .now) (a .file .now) (k .check .result) (c .refused .result) (c .refused .ensures) (k .check .ensures) (c .before .if1 .taken)
+    (λ i. leavesBytes (c .refused .ensures i) (a .file .now))
+    ∙ rows-refused (a .c .n) (a .c .x) (a .c .t) (a .c .wanted) (a .h .now) (a .e .now) (a .u .now) (a .file .now) (k .check .result) (k .check .ensures) (c .before .if1 .taken)
 
 make-fitting-requires : tie.Need-make-fitting-requires
 make-fitting-requires c κs =

@@ -1,30 +1,30 @@
--- `make_file::shape_passes` meets its contract. Assumes nothing.
+-- `make_file::shape_passes` meets its contract: past the test of N, 4N does not wrap. Assumes nothing.
+use mathlib.Core.Path.{_≡_, sym, _∙_}
+use mathlib.Core.Bool.{true}
 use native.Mathlib.Omega.{arith}
-use borrow.Author.Tests.{le-leb, lt-leb}
-use Rattle.rule.specs.Calls.{holds}
-use Rattle.rule.specs.Ranges.{between, cellsAllowed}
-use Rattle.reader.specs.Held.{cells-allowed}
 use borrow.Author.Needs.{needs}
+use borrow.Author.Tests.{not-true, not-false}
+use Rattle.rule.specs.Calls.{holds}
+use Rattle.rule.specs.Ranges.{cellsAllowed}
+use Rattle.checks.specs.Facts.{cells-few}
 use Rattle.make_file.proofs.shape_passes.Statement.{statement}
 use Rattle.make_file.proofs.shape_passes.Tie as tie
 
-returns : tie.Need-returns
-unfolding cellsAllowed between
-returns c =
-    rw (lt-leb 8 (c .before .args .n) (omega arith))
+passed : (c : tie.Else1) → cellsAllowed (c .before .before .args .n) ≡ true
+passed c = sym (c .before .cells-allowed .ensures) ∙ not-false _ (c .if1 .left)
 
-returns-2 : tie.Need-returns-2
-unfolding cellsAllowed between
-returns-2 c =
-    rw (le-leb 8 (c .before .before .args .n) (omega arith), lt-leb (c .before .before .args .n) 256 (omega arith))
+cells-allowed-requires : tie.Need-cells-allowed-requires
+cells-allowed-requires c κs = search needs
+
+returns : tie.Need-returns
+returns c = rw (sym (c .before .cells-allowed .ensures) ∙ not-true _ (c .if1 .taken))
 
 mul-bytes : tie.Need-mul-bytes
-mul-bytes c = search needs
+mul-bytes c = omega (arith, cells-few (c .before .before .args .n) (passed c))
 
-returns-3 : tie.Need-returns-3
+returns-2 : tie.Need-returns-2
 unfolding holds
-returns-3 c =
-    rw (cells-allowed (c .before .before .args .n) (omega arith) (omega arith))
+returns-2 c = rw (passed (c .before))
 
 pub shape-passes-spec : {M : Type 1} → statement M
-shape-passes-spec = tie.close (tie.spec returns returns-2 mul-bytes returns-3)
+shape-passes-spec = tie.close (tie.spec cells-allowed-requires returns mul-bytes returns-2)

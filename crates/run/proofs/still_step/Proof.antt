@@ -4,7 +4,7 @@ use native.Mathlib.Omega.{arith}
 use lib.Seq.{length-take-le}
 use Rattle.rule.specs.Counted.{counted}
 use Rattle.rule.specs.Calls.{stepCall}
-use Rattle.run.specs.Runs.{nothing, nothing-poured}
+use Rattle.run.specs.Runs.{nothing-poured}
 use borrow.Author.Needs.{needs}
 use Rattle.run.proofs.still_step.Statement.{statement}
 use Rattle.run.proofs.still_step.Tie as tie

@@ -1,10 +1,6 @@
 -- `step::step` meets its contract: what the attempt came to is answered, and stored where it was accepted. Assumes nothing.
-use Prim.Native.Nat.{ℕ, suc, _≤_}
-use mathlib.Core.Path.{_≡_, sym, _∙_}
 use native.Mathlib.Numerals.{add-one}
-use native.Mathlib.Omega.{arith}
 use borrow.Author.Needs.{needs}
-use Rattle.rule.specs.Rows.{Row}
 use Rattle.rule.specs.Channel.{Channel}
 use Rattle.rule.specs.Counted.{counted}
 use Rattle.step.specs.Attempt.{Attempted, cells-ask, levels-ask, count-fits, step-refused, step-accepted}
