@@ -1,19 +1,19 @@
 -- Water is kept: what the rule's calls pour and count, told by their answers. Assumes nothing.
-use Prim.Native.Nat.{ℕ, zero, suc, _+_, _-_}
+use Prim.Native.Nat.{ℕ, zero, suc, _+_}
 use mathlib.Core.Path.{_≡_, refl, sym, _∙_, ap, subst}
 use mathlib.Core.List.{List, [], _∷_, _++_}
 use native.Mathlib.Omega.{arith}
 use borrow.Author.Tests.{ne-eqb}
-use lib.IntN.{ℤ, pos, _+ℤ_, +ℤ-idl, +ℤ-assoc}
+use lib.IntN.{pos, _+ℤ_, +ℤ-idl, +ℤ-assoc}
 use Rattle.rule.specs.Rows.{Row, sum}
 use Rattle.rule.specs.Channel.{Channel}
 use Rattle.rule.specs.Refusals.{Outcome, refused, done, _>>=_}
 use Rattle.rule.specs.Checks.{checked}
 use Rattle.rule.specs.Step.{Stepped, accept, step}
-use Rattle.rule.specs.Run.{Ending, whole, open-by, paused, Ran, runOn, runFor}
+use Rattle.rule.specs.Run.{Ending, open-by, Ran, runOn, runFor}
 use Rattle.rule.specs.Calls.{called, ended, ran, stepCall, runCall, runForCall}
 use Rattle.checks.specs.Numbers.{number-not-0}
-use Rattle.run.specs.Runs.{nothing, run-is}
+use Rattle.run.specs.Runs.{nothing, run-is, ended-count}
 use Rattle.water.specs.Calls.{step-accepted}
 use Rattle.water.specs.History as rule
 use Rattle.water.specs.History.{Call, pour, next, after, taken}
@@ -121,12 +121,6 @@ steps-more zero count c = no-more c count _
 steps-more (suc left) count c = on-outcome left count c (step c (nothing (c .N))) refl (steps-more left (suc count))
 
 -- by the count of its answer
-ended-count : (count : ℕ) (ending : Ending) → ended count ending .count ≡ count
-unfolding ended
-ended-count count whole = refl
-ended-count count (open-by r k) = refl
-ended-count count paused = refl
-
 of-ran : (c : Channel) (it : Ran) → More c 0 it → Taken c (it .channel) (ended (it .count) (it .ending) .count)
 of-ran c it a = let z : a .k ≡ ended (it .count) (it .ending) .count = omega (arith, ended-count (it .count) (it .ending), a .counted) in subst (Taken c (it .channel)) z (a .taken)
 

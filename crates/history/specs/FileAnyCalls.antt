@@ -3,6 +3,7 @@
 use Prim.Native.Nat.{ℕ}
 use mathlib.Core.List.{List, [], _∷_, _++_}
 use Rattle.rule.specs.declared.Answer.{Answer}
+use Rattle.rule.specs.Ranges.{mostSteps}
 use Rattle.history.specs.FileRule as rule
 use Rattle.history.specs.FileRule.{FileCall, pour, smooth, onBytes}
 use Rattle.history.specs.FileCalls.{step-row, run-for-most}
@@ -25,7 +26,7 @@ unfoldable pub callOf : AnyFileCall → FileCall
 callOf (step p) = pour p
 callOf filter = smooth
 callOf (run-for most) = rule.run-for most
-callOf run = rule.run-for 1_000_000
+callOf run = rule.run-for mostSteps
 callOf (c-step p) = pour p
 callOf c-filter = smooth
 callOf (c-run most) = rule.run-for most

@@ -6,6 +6,7 @@ use mathlib.Core.List.{List, [], _∷_, _++_}
 use lib.IntN.{ℤ, pos, _+ℤ_}
 use Rattle.rule.specs.declared.Answer.{Answer}
 use Rattle.rule.specs.Calls.{Called, runForFile}
+use Rattle.rule.specs.Ranges.{mostSteps}
 use Rattle.history.specs.FileRule as rule
 use Rattle.history.specs.FileRule.{FileCall, pour, smooth, onBytes, pouredWith, acceptedWith}
 use Rattle.history.specs.FileCalls.{Step, Filter, RunFor, Run, Check, Make, step-entry, step-exit, step-row, step-answer, filter-entry, filter-exit, filter-answer, run-for-most, run-for-entry, run-for-exit, run-for-answer, run-entry, run-exit, check-bytes, check-answer, make-exit, make-answer}
@@ -38,7 +39,7 @@ unfoldable pub callBy : {s t : List ℕ} → FileLink s t → FileCall
 callBy (step o) = pour (step-row o)
 callBy (filter o) = smooth
 callBy (run-for o) = rule.run-for (run-for-most o)
-callBy (run o) = rule.run-for 1_000_000
+callBy (run o) = rule.run-for mostSteps
 callBy (c-step o) = pour (c.step-row o)
 callBy (c-filter o) = smooth
 callBy (c-run o) = rule.run-for (c.run-most o)
@@ -48,7 +49,7 @@ unfoldable pub answer : {s t : List ℕ} → FileLink s t → Answer
 answer (step o) = step-answer o
 answer (filter o) = filter-answer o
 answer (run-for o) = run-for-answer o
-answer (run o) = runForFile 1_000_000 (run-entry o) .answer
+answer (run o) = runForFile mostSteps (run-entry o) .answer
 answer (c-step o) = c.step-answer o
 answer (c-filter o) = c.filter-answer o
 answer (c-run o) = c.run-answer o

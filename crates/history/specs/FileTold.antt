@@ -4,6 +4,7 @@ use mathlib.Core.Path.{_≡_, refl, sym, _∙_, ap, subst}
 use mathlib.Core.List.{List, [], _∷_, _++_}
 use Rattle.rule.specs.declared.Answer.{Answer}
 use Rattle.rule.specs.Calls.{Called, stepFile, filterFile, runForFile}
+use Rattle.rule.specs.Ranges.{mostSteps}
 use Rattle.little.specs.Numbers.{AreBytes}
 use Rattle.on_file.specs.Kept.{leaving}
 use Rattle.on_file.specs.Ran.{run-leaves}
@@ -24,7 +25,7 @@ unfolding answer ruled callBy onBytes
 told (step o) = o .permitted .0
 told (filter o) = o .permitted .0
 told (run-for o) = o .permitted .0
-told (run o) = let s = run-entry o in both (runForFile 1_000_000 s) refl (o .permitted .0 .1 .1 ∙ run-leaves s)
+told (run o) = let s = run-entry o in both (runForFile mostSteps s) refl (o .permitted .0 .1 .1 ∙ run-leaves s)
 told (c-step o) =
     let s = c.step-entry o in
     let p = c.step-row o in

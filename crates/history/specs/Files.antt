@@ -9,20 +9,18 @@ use lib.Dec.{eqb}
 use lib.IntN.{ℤ, pos, _+ℤ_, +ℤ-idr}
 use lib.ListN.{length}
 use Rattle.rule.specs.declared.Answer.{Answer}
-use Rattle.rule.specs.Rows.{Row, map, all, same, sum}
-use Rattle.rule.specs.Ranges.{cellsAllowed, countsAllowed, depthAllowed, mostHeight, mostVelocity, mostReduced, mostFlux, mostAcceleration, mostPoured}
-use Rattle.rule.specs.Channel.{Channel, rows, lengths}
-use Rattle.rule.specs.Refusals.{Refusal, Outcome, refused, done, numberOf, number, shape, counts, value, bufferLength, require, _>>=_}
-use Rattle.rule.specs.Checks.{small, long, shaped, allowed, checked}
+use Rattle.rule.specs.Rows.{Row, all, same, sum}
+use Rattle.rule.specs.Channel.{Channel}
+use Rattle.rule.specs.Refusals.{Refusal, Outcome, refused, done, numberOf, number, shape, counts, bufferLength}
+use Rattle.rule.specs.Checks.{checked}
 use Rattle.rule.specs.Make.{makeChecked}
 use Rattle.rule.specs.File.{countOf, channelOf, fileOf, lengthOf, readWith}
 use Rattle.rule.specs.Calls.{Called, called, read, checkFile, makeFile, rowIn, holds, onFile, stepCall, filterCall, runForCall, stepFile, filterFile, runForFile}
 use Rattle.answers.specs.Stages.{refusal}
 use Rattle.little.specs.Numbers.{AreBytes}
-use Rattle.checks.specs.Tests.{both}
-use Rattle.checks.specs.Numbers.{number-not-0, number-of-done, done-of}
+use Rattle.checks.specs.Numbers.{number-not-0, number-of-done}
 use Rattle.checks.specs.Chain.{came, came-by}
-use Rattle.checks.specs.Allowed.{allowed-of}
+use Rattle.checks.specs.Allowed.{allowed-of, unpoured}
 use Rattle.files.specs.Reading.{read-of}
 use Rattle.files.specs.Trips.{read-file, file-read, read-passes}
 use Rattle.files.specs.Whole.{channel-back}
@@ -35,30 +33,6 @@ use Rattle.history.specs.History.{amount, one, still}
 use Rattle.history.specs.Answers.{step-amount, step-one, still-poured, run-for-taken}
 use Rattle.history.specs.FileRule as files
 use Rattle.history.specs.FileRule.{FileCall, run-for, onBytes, heights, pouredWith, acceptedWith, filePouredBy, fileAcceptedBy}
-
--- checks that pass with a poured row pass without it
-allowed-less : (c : Channel) (given : List Row) → allowed c given ≡ done tt → allowed c [] ≡ done tt
-unfolding allowed require _>>=_ all
-allowed-less c given e =
-    let a₁ = came-by (countsAllowed (c .X) (c .T) (c .wanted) (c .accepted)) counts _ tt e in
-    let a₂ = came-by (all depthAllowed (c .h)) value _ tt (a₁ .1) in
-    let a₃ = came-by (small mostHeight (c .e)) value _ tt (a₂ .1) in
-    let a₄ = came-by (small mostVelocity (c .u)) value _ tt (a₃ .1) in
-    let a₅ = came-by (small mostReduced (c .v)) value _ tt (a₄ .1) in
-    let a₆ = came-by (small mostFlux (c .Q)) value _ tt (a₅ .1) in
-    let a₇ = came-by (small mostAcceleration (c .F)) value _ tt (a₆ .1) in
-    let a₈ = came-by (all (small mostPoured) given) value _ tt (a₇ .1) in
-    rw (a₁ .0, a₂ .0, a₃ .0, a₄ .0, a₅ .0, a₆ .0, a₇ .0) (a₈ .1)
-
-shaped-less : (c : Channel) (given : List Row) → shaped c given ≡ true → shaped c [] ≡ true
-unfolding shaped long all
-shaped-less c given e = rw (both (cellsAllowed (c .N) && same (map length (rows c)) (lengths (c .N))) (long (c .N) given) e .0)
-
-checked-less : (c : Channel) (given : List Row) → numberOf (checked c given) ≡ 0 → numberOf (checked c []) ≡ 0
-unfolding checked require _>>=_
-checked-less c given z =
-    let p = came-by (shaped c given) shape _ tt (done-of (checked c given) z) in
-    number-of-done (checked c []) tt (rw (shaped-less c given (p .0)) (allowed-less c given (p .1)))
 
 -- the counts and the heights of a channel, in its file
 pub record In (s : List ℕ) (c : Channel) : Type 0 where
@@ -99,7 +73,7 @@ module _ (f : Channel → Called Channel) (z : Answer → ℤ) (k : Answer → �
       }
   by-read (done c) e =
       let m = moves c in
-      let p = checked-less c given (read-passes fits given s c e) in
+      let p = unpoured c given (read-passes fits given s c e) in
       let d = f c .left in
       let q : numberOf (checked d []) ≡ 0 = ap (λ x. numberOf (checked x [])) (m .is) ∙ accepted-passes c (m .calls) p in
       let old = in-of s c (read-of fits given s c e .is) in

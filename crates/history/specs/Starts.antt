@@ -12,7 +12,8 @@ use Rattle.little.specs.Numbers.{AreBytes}
 use Rattle.checks.specs.Numbers.{number-not-0}
 use Rattle.checks.specs.Chain.{came-by}
 use Rattle.files.specs.Trips.{file-read}
-use Rattle.water.specs.Starts.{make-passes, read-passes}
+use Rattle.files.specs.Trips.{read-passes}
+use Rattle.water.specs.Starts.{make-passes}
 use Rattle.history.specs.Makes as makes
 use Rattle.history.specs.Reads as reads
 
@@ -32,7 +33,7 @@ make-call-passes c =
 
 read-call-passes : (c : Channel) (s : List ℕ) → readCall c s .answer .number ≡ 0 → numberOf (checked (readCall c s .left) []) ≡ 0
 unfolding readCall
-read-call-passes c s = left-of Passes c (readWith (fit c) [] s) (read-passes (fit c) s)
+read-call-passes c s = left-of Passes c (readWith (fit c) [] s) (read-passes (fit c) [] s)
 
 read-call-file : (c : Channel) (s : List ℕ) → AreBytes s → readCall c s .answer .number ≡ 0 → fileOf (readCall c s .left) ≡ s
 unfolding readCall

@@ -1,5 +1,4 @@
 -- Water is kept: each call of the library as the rule's calls that it stands for. Assumes nothing.
-use Prim.Native.Nat.{_+_}
 use mathlib.Core.Path.{_≡_, refl, sym, _∙_, ap, subst}
 use native.Mathlib.Omega.{arith}
 use lib.IntN.{_+ℤ_, +ℤ-idr}

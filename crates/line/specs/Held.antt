@@ -7,13 +7,13 @@ use mathlib.Core.List.{List, []}
 use lib.ListN.{length, take}
 use Rattle.whole.specs.Row.{padded, Within}
 use Rattle.rule.specs.Rows.{Row}
-use Rattle.rule.specs.Refusals.{Refusal, Outcome, refused, done, number, numberOf, shape, counts, value, depth, dominance, pivot, speed, height, flux, unsettled, complete, fileLength, fileEdition, fileOffsets, bufferLength}
+use Rattle.rule.specs.Refusals.{Outcome, refused, done, numberOf}
 use Rattle.rule.specs.Bytes.{countAt, rowAt}
 use Rattle.rule.specs.File.{lengthOf, offsets, countOf, rowOf, channelOf, readWith}
 use Rattle.rule.specs.Channel.{lengths}
 use Rattle.rule.specs.Line.{line, channelLine}
 use Rattle.rule.specs.Calls.{read, printFile}
-use Rattle.checks.specs.Numbers.{Refused}
+use Rattle.checks.specs.Numbers.{number-within}
 use Rattle.checks.specs.Allowed.{allowed-of}
 use Rattle.little.specs.Written.{written, length-written}
 use Rattle.text.specs.Lines.{lineOf, refusedOf, Printable, channel-line, refused-line}
@@ -21,28 +21,10 @@ use Rattle.reader.specs.Opened.{Opened, opened-of, read-refused, plain-read}
 use Rattle.reader.specs.Reader.{fitsIn}
 use Rattle.reader.specs.Held.{four-cut}
 
--- every refusal's number is at most 15
-number-most : (r : Refusal) → number r ≤ 15
-unfolding number
-number-most shape = omega arith
-number-most counts = omega arith
-number-most value = omega arith
-number-most depth = omega arith
-number-most dominance = omega arith
-number-most pivot = omega arith
-number-most speed = omega arith
-number-most height = omega arith
-number-most flux = omega arith
-number-most unsettled = omega arith
-number-most complete = omega arith
-number-most fileLength = omega arith
-number-most fileEdition = omega arith
-number-most fileOffsets = omega arith
-number-most bufferLength = omega arith
-
+-- every number is at most 15
 outcome-most : {A : Type 0} (m : Outcome A) → numberOf m ≤ 15
 unfolding numberOf
-outcome-most (refused r k) = number-most r
+outcome-most (refused r k) = number-within r .1
 outcome-most (done a) = omega arith
 
 -- the reader's number k for the bytes s, as the code has it
@@ -57,8 +39,8 @@ module _ (s : List ℕ) (k : ℕ) (e : k ≡ numberOf (readWith (fitsIn false s)
   pub refused-is : 1 ≤ k → refusedOf k ≡ printFile s
   unfolding printFile read
   refused-is h =
-      let r : Refused (readWith (fitsIn false s) [] s) = read-refused (fitsIn false s) [] s (λ z. omega arith) in
-      ap refusedOf (e ∙ sym (r .numbered)) ∙ refused-line (r .why) 0 ∙ ap line (sym (r .is) ∙ plain-read s s)
+      let r = read-refused (fitsIn false s) [] s k e (λ z. omega arith) in
+      ap refusedOf (r .numbered) ∙ refused-line (r .why) 0 ∙ ap line (sym (r .is) ∙ plain-read s s)
 
 -- a file that the reader takes
 module _ (s : List ℕ) (z : numberOf (read s) ≡ 0) where

@@ -55,6 +55,6 @@ pub fn run(file: &mut [u8]) -> usize
     if number != 0 {
         return 0;
     }
-    run_for(1000000, file);
+    run_for(rule::MOST_STEPS, file);
     file.len()
 }

@@ -1,25 +1,18 @@
 -- The channel file: the file of what a call on its channel leaves. Assumes nothing.
 use Prim.Native.Nat.{ℕ, zero, suc, _-_}
-use mathlib.Core.Path.{_≡_, refl, sym, ap, _∙_, subst}
-use mathlib.Core.Bool.{_&&_}
+use mathlib.Core.Path.{_≡_, refl, ap, _∙_, subst}
 use mathlib.Core.List.{List, [], _∷_}
-use lib.ListN.{length}
 use Rattle.rule.specs.declared.Answer.{Answer}
-use Rattle.rule.specs.Rows.{Row, map, all, same}
-use Rattle.rule.specs.Ranges.{cellsAllowed, mostPoured}
-use Rattle.rule.specs.Channel.{Channel, channel, rows, lengths}
+use Rattle.rule.specs.Rows.{Row}
+use Rattle.rule.specs.Channel.{Channel, channel}
 use Rattle.rule.specs.Refusals.{Outcome, refused, done, numberOf}
-use Rattle.rule.specs.Checks.{small, long, shaped, checked, wet}
+use Rattle.rule.specs.Checks.{checked}
 use Rattle.rule.specs.File.{fileOf, channelOf}
 use Rattle.rule.specs.Step.{Stepped, step}
 use Rattle.rule.specs.Run.{runOn}
 use Rattle.rule.specs.Calls.{Called, stepCall, filterCall, runForCall}
 use Rattle.answers.specs.Stages.{leaves}
-use Rattle.checks.specs.Tests.{both, and-true}
 use Rattle.checks.specs.Numbers.{done-of}
-use Rattle.checks.specs.Order.{order-passed, order-rest}
-use Rattle.checks.specs.Facts.{valuesAllowed, levelsAllowed}
-use Rattle.checks.specs.Allowed.{countsPass, valuesPass, checked-is}
 use Rattle.water.specs.History.{pour, smooth, next, after}
 use Rattle.water.specs.Again.{step-passes, accepted-passes}
 use Rattle.run.specs.Runs.{nothing, fewerOf, ranOf, run-goes}
@@ -33,18 +26,6 @@ Passing s = numberOf (checked (channelOf s) []) ≡ 0
 -- what is left, as a file
 unfoldable pub filed : Called Channel → Called (List ℕ)
 filed k = record { answer = k .answer; left = fileOf (k .left) }
-
--- a channel that passes the checks with rows poured passes them with none
-pub unpoured : (c : Channel) (poured : List Row) → numberOf (checked c poured) ≡ 0 → numberOf (checked c []) ≡ 0
-unfolding shaped long all
-unpoured c poured z =
-    let m = wet (c .N) (c .X) (c .h) (c .e) in
-    let form = cellsAllowed (c .N) && same (map length (rows c)) (lengths (c .N)) in
-    let own = valuesAllowed (c .h) (c .e) (c .u) && levelsAllowed (c .v) (c .Q) (c .F) in
-    let p = order-passed (shaped c poured) (countsPass c) (valuesPass c poured) m (sym (ap numberOf (checked-is c poured)) ∙ z) in
-    ap numberOf (checked-is c [])
-    ∙ sym (order-rest (shaped c []) (countsPass c) (valuesPass c []) m (and-true form ∙ both form (long (c .N) poured) (p .0) .0) (p .1 .0) (and-true own ∙ both own (all (small mostPoured) poured) (p .1 .1 .0) .0))
-    ∙ p .1 .1 .1
 
 -- what a call leaves passes them too
 pub step-left : (c : Channel) (s : Row) → numberOf (checked c []) ≡ 0 → numberOf (checked (stepCall c s .left) []) ≡ 0

@@ -1,8 +1,8 @@
 -- The channel file: a call on its channel, whichever it is, and over its bytes. Assumes nothing.
 use Prim.Native.Nat.{ℕ, _≤_}
-use mathlib.Core.Path.{_≡_, refl, sym, ap, _∙_, subst}
+use mathlib.Core.Path.{_≡_, refl, sym, ap, _∙_}
 use mathlib.Core.Bool.{Bool, true, false}
-use mathlib.Core.List.{List, [], _∷_}
+use mathlib.Core.List.{List, []}
 use lib.ListN.{length, getD}
 use Rattle.rule.specs.declared.Answer.{Answer}
 use Rattle.rule.specs.Rows.{Row}
@@ -11,14 +11,15 @@ use Rattle.rule.specs.Refusals.{numberOf}
 use Rattle.rule.specs.Checks.{checked}
 use Rattle.rule.specs.File.{lengthOf, countOf, channelOf, readWith}
 use Rattle.rule.specs.Calls.{Called, onFile, rowIn, stepCall, filterCall, runForCall, stepFile, filterFile, runForFile}
+use Rattle.rule.specs.Ranges.{leastCells, mostCells}
 use Rattle.answers.specs.Stages.{refusal}
-use Rattle.checks.specs.Allowed.{pouredRows}
+use Rattle.checks.specs.Allowed.{pouredRows, unpoured}
 use Rattle.reader.specs.Reader.{fitsIn}
 use Rattle.reader.specs.Opened.{Opened, read-refused, plain-read, poured-read}
 use Rattle.writer.specs.Left.{leavesBytes}
 use Rattle.walk.specs.declared.Call.{Call}
 use Rattle.walk.specs.declared.Call.the-variants.{Step, Filter, Run}
-use Rattle.walk.specs.Kept.{Passing, filed, unpoured, step-left, filter-left, run-left}
+use Rattle.walk.specs.Kept.{Passing, filed, step-left, filter-left, run-left}
 
 unfoldable pub poursOf : Call → Bool
 poursOf Step = true
@@ -64,8 +65,8 @@ same-poured (Run most) r s c e = refl
 
 -- what a call on the channel of a file s of n cells asks: that the reader takes it, with the row in the bytes p
 pub record Takes (call : Call) (n : ℕ) (s p : List ℕ) : Type 0 where
-  pub least : 8 ≤ n
-  pub most : n ≤ 256
+  pub least : leastCells ≤ n
+  pub most : n ≤ mostCells
   pub cells : countOf s 1 ≡ n
   pub sized : length s ≡ lengthOf n
   pub fits : fitsIn (poursOf call) p n ≡ true
@@ -82,8 +83,8 @@ module _ (call : Call) (s p : List ℕ) where
   pub refused-by : (r : ℕ) → r ≡ numberOf (readWith fits (pouredRows (poursOf call) (rowIn p)) s) → (r ≡ 0 → ⊥) → leavesBytes (refusal r 0) s ≡ fileCall call s p
   unfolding onFile fileCall
   refused-by r e z =
-      let y = read-refused fits (pouredRows (poursOf call) (rowIn p)) s (λ w. z (e ∙ w)) in
-      rw (y .is) (ap (λ k. leavesBytes (refusal k 0) s) (e ∙ sym (y .numbered)))
+      let y = read-refused fits (pouredRows (poursOf call) (rowIn p)) s r e z in
+      rw (y .is) (ap (λ k. leavesBytes (refusal k 0) s) (y .numbered))
 
   -- and those that it takes
   pub takes-of : Taken → (n : ℕ) → n ≡ countOf s 1 → Takes call n s p

@@ -88,12 +88,12 @@ fn in_arrays(call: Call, n: usize, file: &mut [u8], poured: &[u8]) -> rule::Answ
     let faces = 3 * (n - 1);
     let cells = 3 * n;
     let s = reader::poured_row(pours(call), poured, n);
-    let mut h = [0i64; 256];
-    let mut e = [0i64; 256];
-    let mut u = [0i64; 256];
-    let mut v = [0i64; 256];
-    let mut q = [0i64; 768];
-    let mut f = [0i64; 768];
+    let mut h = [0i64; rule::MOST_CELLS];
+    let mut e = [0i64; rule::MOST_CELLS];
+    let mut u = [0i64; rule::MOST_CELLS];
+    let mut v = [0i64; rule::MOST_CELLS];
+    let mut q = [0i64; 3 * rule::MOST_CELLS];
+    let mut f = [0i64; 3 * rule::MOST_CELLS];
     walk_rows(
         call,
         file,

@@ -1,5 +1,5 @@
 -- `reader::opened` meets its contract: each lent row, and each count, is the file's. Assumes nothing.
-use mathlib.Core.Path.{_≡_, ap, _∙_}
+use mathlib.Core.Path.{ap, _∙_}
 use Rattle.rule.specs.Counted.{counted}
 use Rattle.rule.specs.declared.Counts.{Counts}
 use Rattle.reader.specs.Held.{cells-is}
