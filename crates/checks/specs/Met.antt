@@ -8,14 +8,14 @@ use Rattle.rule.specs.Channel.{Channel}
 use Rattle.rule.specs.Refusals.{Refusal, Outcome, number, _>>=_, require, shape, counts, value, depth, dominance}
 use Rattle.rule.specs.Checks.{wet, allowed, checked}
 use Rattle.rule.specs.Make.{makeChecked}
-use Rattle.checks.specs.Numbers.{Met, Outside, outside-met, refuses-test, refuses-last}
+use Rattle.checks.specs.Numbers.{Met, Outside, outside-met, refuses-test, refuses-last, From}
 
 test : {B : Type 0} (b : Bool) (r : Refusal) (f : Unit {0} → Outcome B) → 1 ≤ number r → number r ≤ 5 → Met 1 5 (f tt) → Met 1 5 (require b r >>= f)
-test b r f p q h = refuses-test (λ n. (1 ≤ n) × (n ≤ 5)) b r f (p, q) h
+test b r f p q h = refuses-test (From 1 5) b r f (p, q) h
 
 pub wet-met : (n X : ℕ) (h e : Row) → Met 1 5 (wet n X h e)
 unfolding wet number
-wet-met n X h e = test _ depth _ (lit≤ tt) (lit≤ tt) (refuses-last (λ n. (1 ≤ n) × (n ≤ 5)) _ dominance (lit≤ tt, lit≤ tt))
+wet-met n X h e = test _ depth _ (lit≤ tt) (lit≤ tt) (refuses-last (From 1 5) _ dominance (lit≤ tt, lit≤ tt))
 
 pub allowed-met : (c : Channel) (poured : List Row) → Met 1 5 (allowed c poured)
 unfolding allowed number

@@ -3,7 +3,7 @@ use Prim.Native.Nat.{ℕ, _-_}
 use mathlib.Core.Path.{_≡_, refl, sym, _∙_, ap}
 use mathlib.Core.Bool.{Bool, true, false, _&&_}
 use native.Mathlib.Omega.{arith}
-use lib.Dec.{eqb, lit≤}
+use lib.Dec.{lit≤}
 use lib.ListN.{length}
 use Rattle.whole.specs.Row.{length-tab}
 use Rattle.rule.specs.Rounded.{roundedFloat}
@@ -19,7 +19,7 @@ use Rattle.rows.specs.All.{map-tab}
 use Rattle.rows.specs.Firsts.{firsts, firsts-padded}
 use Rattle.flux.specs.Faces.{length-fluxes}
 use Rattle.flux.specs.Sizes.{length-accelerations}
-use Rattle.checks.specs.Numbers.{Outside, outside-met, refuses-then, refuses-test}
+use Rattle.checks.specs.Numbers.{Outside, outside-met, refuses-then, refuses-test, Early}
 use Rattle.checks.specs.Met.{make-checked-met}
 use Rattle.answers.specs.Stages.{leaves, early, acceptance, refused-call, accepted-call, unfit-call}
 use Rattle.store.specs.Levels.{renewed-all}
@@ -30,9 +30,9 @@ use Rattle.make.specs.Made.{madeOf, made-number, rowsOf, rows-kept, whol
 make-outside : (n X T wanted : ℕ) (h e u : Row) → Outside (make n X T wanted h e u)
 unfolding make reducedVelocities fluxes number
 make-outside n X T wanted h e u =
-    refuses-then (λ k. eqb k 10 ≡ false) (makeChecked n X T wanted h e u) _ (outside-met 1 5 (makeChecked n X T wanted h e u) (lit≤ tt) (make-checked-met n X T wanted h e u))
-    (λ _. refuses-then (λ k. eqb k 10 ≡ false) (reducedVelocities n X h u) _ (refuses-test (λ k. eqb k 10 ≡ false) _ speed _ refl tt)
-    (λ v. refuses-then (λ k. eqb k 10 ≡ false) (fluxes n X h e u) _ (refuses-test (λ k. eqb k 10 ≡ false) _ flux _ refl tt) (λ Q. tt)))
+    refuses-then Early (makeChecked n X T wanted h e u) _ (outside-met 1 5 (makeChecked n X T wanted h e u) (lit≤ tt) (make-checked-met n X T wanted h e u))
+    (λ _. refuses-then Early (reducedVelocities n X h u) _ (refuses-test Early _ speed _ refl tt)
+    (λ v. refuses-then Early (fluxes n X h e u) _ (refuses-test Early _ flux _ refl tt) (λ Q. tt)))
 
 fits : (lent : Channel) (b : Bool) (m : Outcome Channel) → b ≡ true → plainly lent (require b shape >>= λ _. m) ≡ plainly lent m
 unfolding require _>>=_

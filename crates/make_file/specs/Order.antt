@@ -13,7 +13,7 @@ use Rattle.rule.specs.Refusals.{Outcome, refused, done, number, numberOf, _>>=_
 use Rattle.rule.specs.Make.{makeChecked, make}
 use Rattle.rule.specs.File.{fileOf, lengthOf}
 use Rattle.rule.specs.Calls.{Called, called, rowIn, holds, makeFile}
-use Rattle.checks.specs.Numbers.{number-not-0, done-of, regroup, both-done, Outside, outside-met, refuses-then, refuses-last, passed-last}
+use Rattle.checks.specs.Numbers.{number-not-0, done-of, regroup, both-done, Outside, outside-met, refuses-then, refuses-last, passed-last, Early}
 use Rattle.checks.specs.Met.{make-checked-met}
 use Rattle.checks.specs.Made.{Makeable, makeable-of}
 use Rattle.answers.specs.Stages.{early, refused-first, unfit-call}
@@ -62,8 +62,8 @@ module _ (n X T wanted : ℕ) (h e u : Row) where
   tested-outside : (room : ℕ) → Outside (tested n X T wanted h e u room)
   unfolding tested bufferChecked number
   tested-outside room =
-      refuses-then (λ k. eqb k 10 ≡ false) (makeChecked n X T wanted h e u) _ (outside-met 1 5 (makeChecked n X T wanted h e u) (lit≤ tt) (make-checked-met n X T wanted h e u))
-      (λ _. refuses-last (λ k. eqb k 10 ≡ false) (eqb room (lengthOf n)) bufferLength refl)
+      refuses-then Early (makeChecked n X T wanted h e u) _ (outside-met 1 5 (makeChecked n X T wanted h e u) (lit≤ tt) (make-checked-met n X T wanted h e u))
+      (λ _. refuses-last Early (eqb room (lengthOf n)) bufferLength refl)
 
   -- what the tests let pass
   pub passed-both : (room : ℕ) → numberOf (tested n X T wanted h e u room) ≡ 0 → Makeable n X T wanted h e u × (room ≡ lengthOf n)

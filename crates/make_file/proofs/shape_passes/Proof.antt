@@ -10,7 +10,10 @@ use Rattle.checks.specs.Facts.{cells-few}
 use Rattle.make_file.proofs.shape_passes.Statement.{statement}
 use Rattle.make_file.proofs.shape_passes.Tie as tie
 
-passed : (c : tie.Else1) → cellsAllowed (c .before .before .args .n) ≡ true
+abbrev start : tie.Else1 → tie.Start
+start c = c .before .before .before .before .before
+
+passed : (c : tie.Else1) → cellsAllowed (start c .args .n) ≡ true
 passed c = sym (c .before .cells-allowed .ensures) ∙ not-false _ (c .if1 .left)
 
 cells-allowed-requires : tie.Need-cells-allowed-requires
@@ -20,11 +23,11 @@ returns : tie.Need-returns
 returns c = rw (sym (c .before .cells-allowed .ensures) ∙ not-true _ (c .if1 .taken))
 
 mul-bytes : tie.Need-mul-bytes
-mul-bytes c = omega (arith, cells-few (c .before .before .args .n) (passed c))
+mul-bytes c = omega (arith, cells-few (start c .args .n) (passed c))
 
 returns-2 : tie.Need-returns-2
 unfolding holds
-returns-2 c = rw (passed (c .before))
+returns-2 c = rw (passed c)
 
 pub shape-passes-spec : {M : Type 1} → statement M
 shape-passes-spec = tie.close (tie.spec cells-allowed-requires returns mul-bytes returns-2)
