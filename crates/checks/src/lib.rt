@@ -5,7 +5,8 @@ ghost use mathlib.Core.List.{[], _∷_};
 ghost use Prim.Native.Nat.{_≤_, _^_};
 ghost use lib.ListN.{length};
 ghost use Rattle.rule.specs.Rows.{all, map, same};
-ghost use Rattle.rule.specs.Channel.{channel, lengths};
+ghost use Rattle.rule.specs.Channel.{lengths};
+ghost use Rattle.rule.specs.Counted.{counted};
 ghost use Rattle.rule.specs.Ranges as rule;
 ghost use Rattle.rule.specs.Checks as checks;
 ghost use Rattle.rule.specs.Refusals.{done, numberOf};
@@ -173,11 +174,7 @@ fn first(shape: bool, counts: bool, values: bool) -> u64
 
 // The checks of a channel, and of the row s where it is poured: 0, or the number of the first that fails.
 pub fn check(
-    n: usize,
-    x: u64,
-    t: u64,
-    accepted: u64,
-    wanted: u64,
+    c: rule::Counts,
     h: &[i64],
     e: &[i64],
     u: &[i64],
@@ -187,16 +184,16 @@ pub fn check(
     poured: bool,
     s: &[i64],
 ) -> u64
-    ensures { λ r. ⌜ r ≡ numberOf (checks.checked (channel n x t accepted wanted (now (h .entry)) (now (e .entry)) (now (u .entry)) (now (v .entry)) (now (q .entry)) (now (f .entry))) (pouredRows poured (now (s .entry)))) ⌝ }
+    ensures { λ r. ⌜ r ≡ numberOf (checks.checked (counted c (now (h .entry)) (now (e .entry)) (now (u .entry)) (now (v .entry)) (now (q .entry)) (now (f .entry))) (pouredRows poured (now (s .entry)))) ⌝ }
 {
-    let shape = shaped(n, h, e, u, v, q, f) & poured_shaped(n, poured, s);
-    let counts = counts_allowed(x, t, wanted, accepted);
+    let shape = shaped(c.n, h, e, u, v, q, f) & poured_shaped(c.n, poured, s);
+    let allowed = counts_allowed(c.x, c.t, c.wanted, c.accepted);
     let values = values_allowed(h, e, u) & levels_allowed(v, q, f) & poured_allowed(poured, s);
-    let number = first(shape, counts, values);
+    let number = first(shape, allowed, values);
     if number != 0 {
         return number;
     }
-    wet(n, x, h, e)
+    wet(c.n, c.x, h, e)
 }
 
 // 1: N, and the lengths of the rows that make takes.

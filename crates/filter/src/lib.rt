@@ -2,7 +2,7 @@
 ghost use mathlib.Core.Path.{_≡_};
 ghost use Rattle.answers.specs.Stages.{leaves};
 ghost use mathlib.Core.List.{[]};
-ghost use Rattle.rule.specs.Channel.{channel};
+ghost use Rattle.rule.specs.Counted.{counted};
 ghost use Rattle.rule.specs.Checks as checks;
 ghost use Rattle.rule.specs.Refusals.{numberOf};
 ghost use Rattle.rule.specs.Filter as rule;
@@ -13,26 +13,14 @@ ghost use Rattle.stage.specs.Trials.{trialOf};
 ghost use Rattle.filter.specs.Asked.{Smoothing};
 
 // The checks 1 to 5, then 11: 0, or the number of the first that fails.
-fn ready(
-    n: usize,
-    x: u64,
-    t: u64,
-    accepted: u64,
-    wanted: u64,
-    h: &[i64],
-    e: &[i64],
-    u: &[i64],
-    v: &[i64],
-    q: &[i64],
-    f: &[i64],
-) -> u64
-    ensures { λ r. ⌜ r ≡ numberOf (checks.ready (channel n x t accepted wanted (now (h .entry)) (now (e .entry)) (now (u .entry)) (now (v .entry)) (now (q .entry)) (now (f .entry))) []) ⌝ }
+fn ready(c: rule::Counts, h: &[i64], e: &[i64], u: &[i64], v: &[i64], q: &[i64], f: &[i64]) -> u64
+    ensures { λ r. ⌜ r ≡ numberOf (checks.ready (counted c (now (h .entry)) (now (e .entry)) (now (u .entry)) (now (v .entry)) (now (q .entry)) (now (f .entry))) []) ⌝ }
 {
-    let number = checks::check(n, x, t, accepted, wanted, h, e, u, v, q, f, false, h);
+    let number = checks::check(c, h, e, u, v, q, f, false, h);
     if number != 0 {
         return number;
     }
-    if accepted == wanted {
+    if c.accepted == c.wanted {
         return 11;
     }
     0
@@ -50,11 +38,7 @@ fn smoothed(n: usize, x: u64, h: &[i64], e: &[i64], v: &[i64]) -> stage::Trial
 
 // All is worked out before anything is stored. A refused call leaves the lent rows as they were.
 pub fn filter(
-    n: usize,
-    x: u64,
-    t: u64,
-    accepted: u64,
-    wanted: u64,
+    c: rule::Counts,
     h: &[i64],
     e: &mut [i64],
     u: &mut [i64],
@@ -62,13 +46,13 @@ pub fn filter(
     q: &mut [i64],
     f: &mut [i64],
 ) -> rule::Answer
-    ensures { λ r. ⌜ leaves r (channel n x t accepted wanted (now (h .entry)) (now (e .exit)) (now (u .exit)) (now (v .exit)) (now (q .exit)) (now (f .exit))) ≡ filterCall (channel n x t accepted wanted (now (h .entry)) (now (e .entry)) (now (u .entry)) (now (v .entry)) (now (q .entry)) (now (f .entry))) ⌝ }
+    ensures { λ r. ⌜ leaves r (counted c (now (h .entry)) (now (e .exit)) (now (u .exit)) (now (v .exit)) (now (q .exit)) (now (f .exit))) ≡ filterCall (counted c (now (h .entry)) (now (e .entry)) (now (u .entry)) (now (v .entry)) (now (q .entry)) (now (f .entry))) ⌝ }
 {
-    let number = ready(n, x, t, accepted, wanted, h, e, u, v, q, f);
+    let number = ready(c, h, e, u, v, q, f);
     if number != 0 {
         return answers::refused(number, 0);
     }
-    let trial = smoothed(n, x, h, e, v);
+    let trial = smoothed(c.n, c.x, h, e, v);
     let met = trial.number;
     if met != 0 {
         return answers::refused(met, 0);
@@ -78,7 +62,7 @@ pub fn filter(
     let reduced = trial.v;
     let fluxes = trial.q;
     let accelerations = trial.f;
-    store::keep_cells(n, e, u, v, &heights, &velocities, &reduced);
-    store::renew_levels(n, q, f, &fluxes, &accelerations);
+    store::keep_cells(c.n, e, u, v, &heights, &velocities, &reduced);
+    store::renew_levels(c.n, q, f, &fluxes, &accelerations);
     answers::accepted(0)
 }

@@ -6,7 +6,7 @@ ghost use Prim.Native.Nat.{_+_, _-_, _*_, _≤_};
 ghost use lib.ListN.{length, take};
 ghost use Rattle.rule.specs.Rows.{same};
 ghost use Rattle.rule.specs.Ranges.{cellsAllowed};
-ghost use Rattle.rule.specs.Channel.{channel};
+ghost use Rattle.rule.specs.Counted.{counted, countsOf};
 ghost use Rattle.rule.specs.Refusals.{numberOf};
 ghost use Rattle.rule.specs.Checks.{checked};
 ghost use Rattle.rule.specs.File.{offsets, offsetsIn, channelOf, readWith};
@@ -15,9 +15,8 @@ ghost use Rattle.rule.specs.Calls.{rowIn, readCall};
 ghost use Rattle.little.specs.Numbers.{AreBytes};
 ghost use Rattle.checks.specs.Allowed.{pouredRows};
 ghost use Rattle.reader.specs.Reader.{fitsIn, headTests, formTests, bodyTests};
-ghost use Rattle.reader.specs.Held.{Begun, Formed, Room};
-ghost use Rattle.reader.specs.Left.{lentFit, CellsFit, LevelsFit};
-ghost use Rattle.answers.specs.Stages.{leaves};
+ghost use Rattle.reader.specs.Held.{Begun, Formed};
+ghost use Rattle.reader.specs.Left.{lentFit, CellsFit, LevelsFit, Opens, leavesAll};
 
 // 12, then 13: the length of the head, and the edition.
 fn head(s: &[u8]) -> u64
@@ -73,7 +72,7 @@ fn form(s: &[u8], n: usize) -> u64
 }
 
 // The poured row in an array, where one is poured.
-fn poured_row(poured: bool, p: &[u8], n: usize) -> [i64; 256]
+pub fn poured_row(poured: bool, p: &[u8], n: usize) -> [i64; 256]
     requires { ⌜ (n ≤ 256) × (fitsIn poured (now p) n ≡ true) ⌝ }
     ensures { λ r. ⌜ pouredRows poured (take n r) ≡ pouredRows poured (rowIn (now (p .entry))) ⌝ }
 {
@@ -84,74 +83,132 @@ fn poured_row(poured: bool, p: &[u8], n: usize) -> [i64; 256]
     }
 }
 
-// 1 to 5 of a channel of n cells, whose rows are the first entries of those lent.
-fn check_firsts(
-    n: usize,
-    x: u64,
-    t: u64,
-    accepted: u64,
-    wanted: u64,
-    h: &[i64],
-    e: &[i64],
-    u: &[i64],
-    v: &[i64],
-    q: &[i64],
-    f: &[i64],
-    poured: bool,
-    w: &[i64],
-) -> u64
-    requires { ⌜ Room n (now h) (now e) (now u) (now v) (now q) (now f) (now w) ⌝ }
-    ensures { λ r. ⌜ r ≡ numberOf (checked (channel n x t accepted wanted (take n (now (h .entry))) (take n (now (e .entry))) (take n (now (u .entry))) (take n (now (v .entry))) (take (3 * (n - 1)) (now (q .entry))) (take (3 * n) (now (f .entry)))) (pouredRows poured (take n (now (w .entry))))) ⌝ }
+// A row of entries of four bytes, from `at` on.
+pub fn keep_row4(s: &[u8], at: usize, row: &mut [i64])
+    requires { ⌜ at + 4 * length (now row) ≤ length (now s) ⌝ }
+    ensures { λ r. ⌜ now (row .exit) ≡ rowAt 4 (now (s .entry)) at (length (now (row .entry))) ⌝ }
 {
-    let faces = 3 * (n - 1);
-    let cells = 3 * n;
-    checks::check(
-        n,
-        x,
-        t,
-        accepted,
-        wanted,
-        &h[..n],
-        &e[..n],
-        &u[..n],
-        &v[..n],
-        &q[..faces],
-        &f[..cells],
-        poured,
-        &w[..n],
-    )
+    let mut j = 0;
+    while j < row.len() {
+        row[j] = little::signed4_at(s, at + 4 * j);
+        j += 1;
+    }
 }
 
-// 1 to 5 of the channel that a file of n cells holds.
-fn values(s: &[u8], n: usize, poured: bool, p: &[u8]) -> u64
-    requires { ⌜ Formed n poured (now s) (now p) ⌝ }
-    ensures { λ r. ⌜ r ≡ numberOf (checked (channelOf (now (s .entry))) (pouredRows poured (rowIn (now (p .entry))))) ⌝ }
+// A row of entries of eight bytes, from `at` on.
+pub fn keep_row8(s: &[u8], at: usize, row: &mut [i64])
+    requires { ⌜ at + 8 * length (now row) ≤ length (now s) ⌝ }
+    ensures { λ r. ⌜ now (row .exit) ≡ rowAt 8 (now (s .entry)) at (length (now (row .entry))) ⌝ }
 {
-    let h = little::read_row4(s, 48, n);
-    let e = little::read_row4(s, 48 + 4 * n, n);
-    let u = little::read_row4(s, 48 + 8 * n, n);
-    let v = little::read_row4(s, 48 + 12 * n, n);
-    let q = little::read_row8(s, 48 + 16 * n, 3 * (n - 1));
-    let f = little::read_row8(s, 24 + 40 * n, 3 * n);
-    let w = poured_row(poured, p, n);
+    let mut j = 0;
+    while j < row.len() {
+        row[j] = little::signed8_at(s, at + 8 * j);
+        j += 1;
+    }
+}
+
+// The counts of a file: N, X, T, accepted, wanted.
+pub fn counts(s: &[u8]) -> rule::Counts
+    requires { ⌜ 48 ≤ length (now s) ⌝ }
+    ensures { λ r. ⌜ r ≡ countsOf (channelOf (now (s .entry))) ⌝ }
+{
+    let n = little::count_at(s, 4) as usize;
     let x = little::count_at(s, 8);
     let t = little::count_at(s, 12);
     let accepted = little::count_at(s, 16);
     let wanted = little::count_at(s, 20);
-    check_firsts(
+    rule::Counts {
         n,
         x,
         t,
         accepted,
         wanted,
-        &h,
-        &e,
-        &u,
-        &v,
-        &q,
-        &f,
+    }
+}
+
+// The rows of a file's cells: depths, heights, velocities and reduced velocities.
+pub fn keep_cells(s: &[u8], h: &mut [i64], e: &mut [i64], u: &mut [i64], v: &mut [i64])
+    requires { ⌜ CellsFit (now s) (now h) (now e) (now u) (now v) ⌝ }
+    ensures { λ r. ⌜ (now (h .exit) ≡ channelOf (now (s .entry)) .h) × (now (e .exit) ≡ channelOf (now (s .entry)) .e) × (now (u .exit) ≡ channelOf (now (s .entry)) .u) × (now (v .exit) ≡ channelOf (now (s .entry)) .v) ⌝ }
+{
+    let n = h.len();
+    keep_row4(s, 48, h);
+    keep_row4(s, 48 + 4 * n, e);
+    keep_row4(s, 48 + 8 * n, u);
+    keep_row4(s, 48 + 12 * n, v);
+}
+
+// The levels of a file of n cells: of Q and of F.
+pub fn keep_levels(s: &[u8], n: usize, q: &mut [i64], f: &mut [i64])
+    requires { ⌜ LevelsFit n (now s) (now q) (now f) ⌝ }
+    ensures { λ r. ⌜ (now (q .exit) ≡ channelOf (now (s .entry)) .Q) × (now (f .exit) ≡ channelOf (now (s .entry)) .F) ⌝ }
+{
+    keep_row8(s, 48 + 16 * n, q);
+    keep_row8(s, 24 + 40 * n, f);
+}
+
+// The channel of a file whose form is right: its rows in lent ones of their lengths, and its counts.
+pub fn opened(
+    s: &[u8],
+    h: &mut [i64],
+    e: &mut [i64],
+    u: &mut [i64],
+    v: &mut [i64],
+    q: &mut [i64],
+    f: &mut [i64],
+) -> rule::Counts
+    requires { ⌜ Opens (now s) (now h) (now e) (now u) (now v) (now q) (now f) ⌝ }
+    ensures { λ r. ⌜ counted r (now (h .exit)) (now (e .exit)) (now (u .exit)) (now (v .exit)) (now (q .exit)) (now (f .exit)) ≡ channelOf (now (s .entry)) ⌝ }
+{
+    let c = counts(s);
+    keep_cells(s, h, e, u, v);
+    keep_levels(s, c.n, q, f);
+    c
+}
+
+// 1 to 5 of the channel of such a file, and of the row w where it is poured.
+fn check_opened(
+    s: &[u8],
+    h: &mut [i64],
+    e: &mut [i64],
+    u: &mut [i64],
+    v: &mut [i64],
+    q: &mut [i64],
+    f: &mut [i64],
+    poured: bool,
+    w: &[i64],
+) -> u64
+    requires { ⌜ Opens (now s) (now h) (now e) (now u) (now v) (now q) (now f) ⌝ }
+    ensures { λ r. ⌜ r ≡ numberOf (checked (channelOf (now (s .entry))) (pouredRows poured (now (w .entry)))) ⌝ }
+{
+    let c = opened(s, h, e, u, v, q, f);
+    checks::check(c, h, e, u, v, q, f, poured, w)
+}
+
+// 1 to 5 of the channel that a file of n cells holds, in rows of its own.
+fn values(s: &[u8], n: usize, poured: bool, p: &[u8]) -> u64
+    requires { ⌜ Formed n poured (now s) (now p) ⌝ }
+    ensures { λ r. ⌜ r ≡ numberOf (checked (channelOf (now (s .entry))) (pouredRows poured (rowIn (now (p .entry))))) ⌝ }
+{
+    let faces = 3 * (n - 1);
+    let cells = 3 * n;
+    let w = poured_row(poured, p, n);
+    let mut h = [0i64; 256];
+    let mut e = [0i64; 256];
+    let mut u = [0i64; 256];
+    let mut v = [0i64; 256];
+    let mut q = [0i64; 768];
+    let mut f = [0i64; 768];
+    check_opened(
+        s,
+        &mut h[..n],
+        &mut e[..n],
+        &mut u[..n],
+        &mut v[..n],
+        &mut q[..faces],
+        &mut f[..cells],
         poured,
-        &w,
+        &w[..n],
     )
 }
 
@@ -197,100 +254,39 @@ fn check_lent(s: &[u8], h: &[i64], e: &[i64], u: &[i64], v: &[i64], q: &[i64], f
     body(s, n, false, s)
 }
 
-// A row of entries of four bytes, from `at` on.
-pub fn keep_row4(s: &[u8], at: usize, row: &mut [i64])
-    requires { ⌜ at + 4 * length (now row) ≤ length (now s) ⌝ }
-    ensures { λ r. ⌜ now (row .exit) ≡ rowAt 4 (now (s .entry)) at (length (now (row .entry))) ⌝ }
-{
-    let mut j = 0;
-    while j < row.len() {
-        row[j] = little::signed4_at(s, at + 4 * j);
-        j += 1;
-    }
+// What a reader leaves beside the rows: its answer, and the counts.
+pub struct Reading {
+    pub answer: rule::Answer,
+    pub counts: rule::Counts,
 }
 
-// A row of entries of eight bytes, from `at` on.
-pub fn keep_row8(s: &[u8], at: usize, row: &mut [i64])
-    requires { ⌜ at + 8 * length (now row) ≤ length (now s) ⌝ }
-    ensures { λ r. ⌜ now (row .exit) ≡ rowAt 8 (now (s .entry)) at (length (now (row .entry))) ⌝ }
-{
-    let mut j = 0;
-    while j < row.len() {
-        row[j] = little::signed8_at(s, at + 8 * j);
-        j += 1;
-    }
-}
-
-// The counts of a file: N, X, T, accepted, wanted.
-pub fn keep_counts(
-    s: &[u8],
-    n: &mut usize,
-    x: &mut u64,
-    t: &mut u64,
-    accepted: &mut u64,
-    wanted: &mut u64,
-)
-    requires { ⌜ 48 ≤ length (now s) ⌝ }
-    ensures { λ r. ⌜ (now (n .exit) ≡ channelOf (now (s .entry)) .N) × (now (x .exit) ≡ channelOf (now (s .entry)) .X) × (now (t .exit) ≡ channelOf (now (s .entry)) .T) × (now (accepted .exit) ≡ channelOf (now (s .entry)) .accepted) × (now (wanted .exit) ≡ channelOf (now (s .entry)) .wanted) ⌝ }
-{
-    *n = little::count_at(s, 4) as usize;
-    *x = little::count_at(s, 8);
-    *t = little::count_at(s, 12);
-    *accepted = little::count_at(s, 16);
-    *wanted = little::count_at(s, 20);
-}
-
-// The rows of a file's cells: depths, heights, velocities and reduced velocities.
-pub fn keep_cells(s: &[u8], h: &mut [i64], e: &mut [i64], u: &mut [i64], v: &mut [i64])
-    requires { ⌜ CellsFit (now s) (now h) (now e) (now u) (now v) ⌝ }
-    ensures { λ r. ⌜ (now (h .exit) ≡ channelOf (now (s .entry)) .h) × (now (e .exit) ≡ channelOf (now (s .entry)) .e) × (now (u .exit) ≡ channelOf (now (s .entry)) .u) × (now (v .exit) ≡ channelOf (now (s .entry)) .v) ⌝ }
-{
-    let n = h.len();
-    keep_row4(s, 48, h);
-    keep_row4(s, 48 + 4 * n, e);
-    keep_row4(s, 48 + 8 * n, u);
-    keep_row4(s, 48 + 12 * n, v);
-}
-
-// The levels of a file of n cells: of Q and of F.
-pub fn keep_levels(s: &[u8], n: usize, q: &mut [i64], f: &mut [i64])
-    requires { ⌜ LevelsFit n (now s) (now q) (now f) ⌝ }
-    ensures { λ r. ⌜ (now (q .exit) ≡ channelOf (now (s .entry)) .Q) × (now (f .exit) ≡ channelOf (now (s .entry)) .F) ⌝ }
-{
-    keep_row8(s, 48 + 16 * n, q);
-    keep_row8(s, 24 + 40 * n, f);
-}
-
-// What the file s holds, in the lent values. A refused call leaves them all as they were. The contract says last that what is
-// read are bytes, as the language knows of any `[u8]`.
+// What the file s holds, in the lent rows and in place of the counts c. A refused call leaves them all as they were. The
+// contract says last that what is read are bytes, as the language knows of any `[u8]`.
 pub fn read(
     s: &[u8],
-    n: &mut usize,
-    x: &mut u64,
-    t: &mut u64,
-    accepted: &mut u64,
-    wanted: &mut u64,
+    c: rule::Counts,
     h: &mut [i64],
     e: &mut [i64],
     u: &mut [i64],
     v: &mut [i64],
     q: &mut [i64],
     f: &mut [i64],
-) -> rule::Answer
-    ensures { λ r. ⌜ leaves r (channel (now (n .exit)) (now (x .exit)) (now (t .exit)) (now (accepted .exit)) (now (wanted .exit)) (now (h .exit)) (now (e .exit)) (now (u .exit)) (now (v .exit)) (now (q .exit)) (now (f .exit))) ≡ readCall (channel (now (n .entry)) (now (x .entry)) (now (t .entry)) (now (accepted .entry)) (now (wanted .entry)) (now (h .entry)) (now (e .entry)) (now (u .entry)) (now (v .entry)) (now (q .entry)) (now (f .entry))) (now (s .entry)) ⌝ }
+) -> Reading
+    ensures { λ r. ⌜ leavesAll r (now (h .exit)) (now (e .exit)) (now (u .exit)) (now (v .exit)) (now (q .exit)) (now (f .exit)) ≡ readCall (counted c (now (h .entry)) (now (e .entry)) (now (u .entry)) (now (v .entry)) (now (q .entry)) (now (f .entry))) (now (s .entry)) ⌝ }
     ensures { λ _. ⌜ AreBytes (now (s .entry)) ⌝ }
 {
     let number = check_lent(s, h, e, u, v, q, f);
     if number != 0 {
-        return rule::Answer {
+        let answer = rule::Answer {
             number,
             stage: 0,
             count: 0,
         };
+        return Reading { answer, counts: c };
     }
-    let cells = h.len();
-    keep_counts(s, n, x, t, accepted, wanted);
-    keep_cells(s, h, e, u, v);
-    keep_levels(s, cells, q, f);
-    answers::accepted(0)
+    let counts = opened(s, h, e, u, v, q, f);
+    Reading {
+        answer: answers::accepted(0),
+        counts,
+    }
 }

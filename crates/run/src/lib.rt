@@ -2,30 +2,26 @@
 // what was accepted.
 ghost use mathlib.Core.Path.{_≡_};
 ghost use Prim.Native.Nat.{_≤_};
-ghost use Rattle.rule.specs.Channel.{channel};
+ghost use Rattle.rule.specs.Counted.{counted, left};
 ghost use Rattle.rule.specs.Calls.{stepCall, ended, runCall, runForCall};
-ghost use Rattle.answers.specs.Stages.{leaves};
 ghost use Rattle.run.specs.Runs.{nothing, fewerOf, endingOf};
 
 // A step with nothing poured.
 fn still_step(
-    n: usize,
-    x: u64,
-    t: u64,
-    accepted: &mut u64,
-    wanted: u64,
+    c: rule::Counts,
     h: &[i64],
     e: &mut [i64],
     u: &mut [i64],
     v: &mut [i64],
     q: &mut [i64],
     f: &mut [i64],
-) -> rule::Answer
-    requires { ⌜ n ≤ 256 ⌝ }
-    ensures { λ r. ⌜ leaves r (channel n x t (now (accepted .exit)) wanted (now (h .entry)) (now (e .exit)) (now (u .exit)) (now (v .exit)) (now (q .exit)) (now (f .exit))) ≡ stepCall (channel n x t (now (accepted .entry)) wanted (now (h .entry)) (now (e .entry)) (now (u .entry)) (now (v .entry)) (now (q .entry)) (now (f .entry))) (nothing n) ⌝ }
+) -> rule::Left
+    requires { ⌜ c .n ≤ 256 ⌝ }
+    ensures { λ r. ⌜ left c r (now (h .entry)) (now (e .exit)) (now (u .exit)) (now (v .exit)) (now (q .exit)) (now (f .exit)) ≡ stepCall (counted c (now (h .entry)) (now (e .entry)) (now (u .entry)) (now (v .entry)) (now (q .entry)) (now (f .entry))) (nothing (c .n)) ⌝ }
 {
     let s = [0i64; 256];
-    step::step(n, x, t, accepted, wanted, h, e, u, v, q, f, &s[..n])
+    let n = c.n;
+    step::step(c, h, e, u, v, q, f, &s[..n])
 }
 
 // The steps that a run takes: as many as it may, or all that are left where those are fewer.
@@ -52,57 +48,67 @@ fn at_end(accepted: u64, wanted: u64, count: u64) -> rule::Answer
 // At most `most` steps, for a caller who stops between calls.
 pub fn run_for(
     most: u64,
-    n: usize,
-    x: u64,
-    t: u64,
-    accepted: &mut u64,
-    wanted: u64,
+    c: rule::Counts,
     h: &[i64],
     e: &mut [i64],
     u: &mut [i64],
     v: &mut [i64],
     q: &mut [i64],
     f: &mut [i64],
-) -> rule::Answer
-    ensures { λ r. ⌜ leaves r (channel n x t (now (accepted .exit)) wanted (now (h .entry)) (now (e .exit)) (now (u .exit)) (now (v .exit)) (now (q .exit)) (now (f .exit))) ≡ runForCall most (channel n x t (now (accepted .entry)) wanted (now (h .entry)) (now (e .entry)) (now (u .entry)) (now (v .entry)) (now (q .entry)) (now (f .entry))) ⌝ }
+) -> rule::Left
+    ensures { λ r. ⌜ left c r (now (h .entry)) (now (e .exit)) (now (u .exit)) (now (v .exit)) (now (q .exit)) (now (f .exit)) ≡ runForCall most (counted c (now (h .entry)) (now (e .entry)) (now (u .entry)) (now (v .entry)) (now (q .entry)) (now (f .entry))) ⌝ }
 {
-    let start = *accepted;
-    let number = checks::check(n, x, t, start, wanted, h, e, u, v, q, f, false, h);
+    let number = checks::check(c, h, e, u, v, q, f, false, h);
     if number != 0 {
-        return answers::refused(number, 0);
+        return rule::Left {
+            answer: answers::refused(number, 0),
+            accepted: c.accepted,
+        };
     }
+    let mut accepted = c.accepted;
     let mut count = 0;
-    let mut left = fewer(most, wanted - start);
-    while left > 0 {
-        let r = still_step(n, x, t, accepted, wanted, h, e, u, v, q, f);
-        if r.number != 0 {
-            return rule::Answer {
-                number: r.number,
-                stage: r.stage,
-                count,
+    let mut steps = fewer(most, c.wanted - c.accepted);
+    while steps > 0 {
+        let at = rule::Counts {
+            n: c.n,
+            x: c.x,
+            t: c.t,
+            accepted,
+            wanted: c.wanted,
+        };
+        let r = still_step(at, h, e, u, v, q, f);
+        accepted = r.accepted;
+        let a = r.answer;
+        if a.number != 0 {
+            return rule::Left {
+                answer: rule::Answer {
+                    number: a.number,
+                    stage: a.stage,
+                    count,
+                },
+                accepted,
             };
         }
         count += 1;
-        left -= 1;
+        steps -= 1;
     }
-    at_end(*accepted, wanted, count)
+    rule::Left {
+        answer: at_end(accepted, c.wanted, count),
+        accepted,
+    }
 }
 
 // All steps that are left.
 pub fn run(
-    n: usize,
-    x: u64,
-    t: u64,
-    accepted: &mut u64,
-    wanted: u64,
+    c: rule::Counts,
     h: &[i64],
     e: &mut [i64],
     u: &mut [i64],
     v: &mut [i64],
     q: &mut [i64],
     f: &mut [i64],
-) -> rule::Answer
-    ensures { λ r. ⌜ leaves r (channel n x t (now (accepted .exit)) wanted (now (h .entry)) (now (e .exit)) (now (u .exit)) (now (v .exit)) (now (q .exit)) (now (f .exit))) ≡ runCall (channel n x t (now (accepted .entry)) wanted (now (h .entry)) (now (e .entry)) (now (u .entry)) (now (v .entry)) (now (q .entry)) (now (f .entry))) ⌝ }
+) -> rule::Left
+    ensures { λ r. ⌜ left c r (now (h .entry)) (now (e .exit)) (now (u .exit)) (now (v .exit)) (now (q .exit)) (now (f .exit)) ≡ runCall (counted c (now (h .entry)) (now (e .entry)) (now (u .entry)) (now (v .entry)) (now (q .entry)) (now (f .entry))) ⌝ }
 {
-    run_for(wanted, n, x, t, accepted, wanted, h, e, u, v, q, f)
+    run_for(c.wanted, c, h, e, u, v, q, f)
 }

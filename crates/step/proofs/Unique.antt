@@ -7,26 +7,25 @@ use denote.Triple.Clauses.{AtExit}
 use borrow.Fn.Kinds.{Dens, resT, endedOf}
 use Rattle.rule.specs.Channel.{Channel}
 use Rattle.rule.specs.Calls.{Called}
+use Rattle.rule.specs.Counted.{leftOf}
 use Rattle.step.proofs.step.Kinds as kinds
 use Rattle.step.proofs.step.Reads.{Post}
 
-module _ (κs : Lfts 8) (a : Dens κs kinds.ps) (r r′ : resT kinds.r κs .Denot) (x x′ : AtExit (endedOf 8 kinds.ps kinds.r) κs) where
-  -- in the answer and in each value that is lent to be changed
+module _ (κs : Lfts 7) (a : Dens κs kinds.ps) (r r′ : resT kinds.r κs .Denot) (x x′ : AtExit (endedOf 7 kinds.ps kinds.r) κs) where
+  -- in the answer with the counts, and in each row that is lent to be changed
   pub record Coincide : Type 0 where
     pub answer : r ≡ r′
-    pub accepted : now (x .1 .1 .1 .0) ≡ now (x′ .1 .1 .1 .0)
-    pub e : now (x .1 .1 .1 .1 .1 .1 .0) ≡ now (x′ .1 .1 .1 .1 .1 .1 .0)
-    pub u : now (x .1 .1 .1 .1 .1 .1 .1 .0) ≡ now (x′ .1 .1 .1 .1 .1 .1 .1 .0)
-    pub v : now (x .1 .1 .1 .1 .1 .1 .1 .1 .0) ≡ now (x′ .1 .1 .1 .1 .1 .1 .1 .1 .0)
-    pub q : now (x .1 .1 .1 .1 .1 .1 .1 .1 .1 .0) ≡ now (x′ .1 .1 .1 .1 .1 .1 .1 .1 .1 .0)
-    pub f : now (x .1 .1 .1 .1 .1 .1 .1 .1 .1 .1 .0) ≡ now (x′ .1 .1 .1 .1 .1 .1 .1 .1 .1 .1 .0)
+    pub e : now (x .1 .1 .0) ≡ now (x′ .1 .1 .0)
+    pub u : now (x .1 .1 .1 .0) ≡ now (x′ .1 .1 .1 .0)
+    pub v : now (x .1 .1 .1 .1 .0) ≡ now (x′ .1 .1 .1 .1 .0)
+    pub q : now (x .1 .1 .1 .1 .1 .0) ≡ now (x′ .1 .1 .1 .1 .1 .0)
+    pub f : now (x .1 .1 .1 .1 .1 .1 .0) ≡ now (x′ .1 .1 .1 .1 .1 .1 .0)
 
   pub one-outcome : Post κs a r x → Post κs a r′ x′ → Coincide
   one-outcome p p′ =
       let same = p ∙ sym p′ in
       record {
-        answer = ap (λ (c : Called Channel). c .answer) same;
-        accepted = ap (λ (c : Called Channel). c .left .accepted) same;
+        answer = ap leftOf same;
         e = ap (λ (c : Called Channel). c .left .e) same;
         u = ap (λ (c : Called Channel). c .left .u) same;
         v = ap (λ (c : Called Channel). c .left .v) same;

@@ -1,8 +1,8 @@
 // A step over lent rows: a prediction, and corrections until they settle.
 ghost use mathlib.Core.Path.{_≡_};
-ghost use Rattle.rule.specs.Channel.{channel};
+ghost use Rattle.rule.specs.Counted.{counted, left};
 ghost use Rattle.rule.specs.Calls.{stepCall};
-ghost use Rattle.answers.specs.Stages.{leaves, stageOf};
+ghost use Rattle.answers.specs.Stages.{stageOf};
 ghost use Rattle.stage.specs.Asked.{Staging};
 ghost use Rattle.stage.specs.Trials.{stopped};
 ghost use Rattle.step.specs.Advance.{Advances};
@@ -18,9 +18,7 @@ pub struct Advanced {
 
 // Every stage starts from the stored e and V, and uses the trial Q and F of the stage before.
 fn advance(
-    n: usize,
-    x: u64,
-    t: u64,
+    c: rule::Counts,
     h: &[i64],
     e: &[i64],
     v: &[i64],
@@ -28,10 +26,10 @@ fn advance(
     f: &[i64],
     s: &[i64],
 ) -> Advanced
-    requires { ⌜ Staging n x t (now h) (now e) (now v) (now q) (now f) (now s) (now q) (now f) ⌝ }
-    ensures { λ r. ⌜ Advances n x t (now (h .entry)) (now (e .entry)) (now (v .entry)) (now (q .entry)) (now (f .entry)) (now (s .entry)) r ⌝ }
+    requires { ⌜ Staging (c .n) (c .x) (c .t) (now h) (now e) (now v) (now q) (now f) (now s) (now q) (now f) ⌝ }
+    ensures { λ r. ⌜ Advances (c .n) (c .x) (c .t) (now (h .entry)) (now (e .entry)) (now (v .entry)) (now (q .entry)) (now (f .entry)) (now (s .entry)) r ⌝ }
 {
-    let mut old = stage::stage(false, n, x, t, h, e, v, q, f, s, q, f);
+    let mut old = stage::stage(false, c, h, e, v, q, f, s, q, f);
     let predicted = old.number;
     if predicted != 0 {
         return Advanced {
@@ -51,7 +49,7 @@ fn advance(
         let before_u: &[i64] = &velocities;
         let before_q: &[i64] = &fluxes;
         let before_f: &[i64] = &accelerations;
-        let new = stage::stage(true, n, x, t, h, e, v, q, f, s, before_q, before_f);
+        let new = stage::stage(true, c, h, e, v, q, f, s, before_q, before_f);
         let number = new.number;
         if number != 0 {
             return Advanced {
@@ -63,7 +61,7 @@ fn advance(
         }
         let new_e = new.e;
         let new_u = new.u;
-        if stage::settled(n, &new_e, &new_u, before_e, before_u) {
+        if stage::settled(c.n, &new_e, &new_u, before_e, before_u) {
             return Advanced {
                 number: 0,
                 stage: 0,
@@ -96,11 +94,7 @@ fn refused(number: u64) -> Advanced
 
 // The whole step, but for what it stores: 1 to 5, then 11, then the stages.
 fn attempt(
-    n: usize,
-    x: u64,
-    t: u64,
-    accepted: u64,
-    wanted: u64,
+    c: rule::Counts,
     h: &[i64],
     e: &[i64],
     u: &[i64],
@@ -109,25 +103,21 @@ fn attempt(
     f: &[i64],
     s: &[i64],
 ) -> Advanced
-    ensures { λ r. ⌜ Attempted (channel n x t accepted wanted (now (h .entry)) (now (e .entry)) (now (u .entry)) (now (v .entry)) (now (q .entry)) (now (f .entry))) (now (s .entry)) r ⌝ }
+    ensures { λ r. ⌜ Attempted (counted c (now (h .entry)) (now (e .entry)) (now (u .entry)) (now (v .entry)) (now (q .entry)) (now (f .entry))) (now (s .entry)) r ⌝ }
 {
-    let number = checks::check(n, x, t, accepted, wanted, h, e, u, v, q, f, true, s);
+    let number = checks::check(c, h, e, u, v, q, f, true, s);
     if number != 0 {
         return refused(number);
     }
-    if accepted == wanted {
+    if c.accepted == c.wanted {
         return refused(11);
     }
-    advance(n, x, t, h, e, v, q, f, s)
+    advance(c, h, e, v, q, f, s)
 }
 
 // One step with s poured: the rows and the count of accepted steps become the rule's, or stay as they were.
 pub fn step(
-    n: usize,
-    x: u64,
-    t: u64,
-    accepted: &mut u64,
-    wanted: u64,
+    c: rule::Counts,
     h: &[i64],
     e: &mut [i64],
     u: &mut [i64],
@@ -135,11 +125,10 @@ pub fn step(
     q: &mut [i64],
     f: &mut [i64],
     s: &[i64],
-) -> rule::Answer
-    ensures { λ r. ⌜ leaves r (channel n x t (now (accepted .exit)) wanted (now (h .entry)) (now (e .exit)) (now (u .exit)) (now (v .exit)) (now (q .exit)) (now (f .exit))) ≡ stepCall (channel n x t (now (accepted .entry)) wanted (now (h .entry)) (now (e .entry)) (now (u .entry)) (now (v .entry)) (now (q .entry)) (now (f .entry))) (now (s .entry)) ⌝ }
+) -> rule::Left
+    ensures { λ r. ⌜ left c r (now (h .entry)) (now (e .exit)) (now (u .exit)) (now (v .exit)) (now (q .exit)) (now (f .exit)) ≡ stepCall (counted c (now (h .entry)) (now (e .entry)) (now (u .entry)) (now (v .entry)) (now (q .entry)) (now (f .entry))) (now (s .entry)) ⌝ }
 {
-    let count = *accepted;
-    let r = attempt(n, x, t, count, wanted, h, e, u, v, q, f, s);
+    let r = attempt(c, h, e, u, v, q, f, s);
     let answer = rule::Answer {
         number: r.number,
         stage: r.stage,
@@ -147,7 +136,10 @@ pub fn step(
     };
     let refusal = r.number;
     if refusal != 0 {
-        return answer;
+        return rule::Left {
+            answer,
+            accepted: c.accepted,
+        };
     }
     let trial = r.trial;
     let heights = trial.e;
@@ -155,8 +147,8 @@ pub fn step(
     let reduced = trial.v;
     let fluxes = trial.q;
     let accelerations = trial.f;
-    store::keep_cells(n, e, u, v, &heights, &velocities, &reduced);
-    store::push_levels(n, q, f, &fluxes, &accelerations);
-    *accepted = count + 1;
-    answer
+    store::keep_cells(c.n, e, u, v, &heights, &velocities, &reduced);
+    store::push_levels(c.n, q, f, &fluxes, &accelerations);
+    let accepted = c.accepted + 1;
+    rule::Left { answer, accepted }
 }

@@ -3,7 +3,7 @@ ghost use mathlib.Core.Path.{_≡_};
 ghost use mathlib.Core.List.{[], _∷_};
 ghost use Prim.Native.Nat.{_+_, _*_, _≤_};
 ghost use lib.ListN.{length};
-ghost use Rattle.rule.specs.Channel.{channel};
+ghost use Rattle.rule.specs.Counted.{counted};
 ghost use Rattle.rule.specs.File.{edition, offsets, lengthOf, headBytes, bodyBytes, fileOf};
 ghost use Rattle.rule.specs.Calls.{writeCall};
 ghost use Rattle.little.specs.Written.{written};
@@ -22,12 +22,13 @@ fn put_counts(d: &mut [u8], at: usize, a: u64, b: u64, c: u64, e: u64)
 }
 
 // The twelve counts: the edition, the channel's counts, and where the rows start.
-fn put_head(d: &mut [u8], n: u64, x: u64, t: u64, accepted: u64, wanted: u64)
-    requires { ⌜ (48 ≤ length (now d)) × (n ≤ 256) ⌝ }
-    ensures { λ r. ⌜ now (d .exit) ≡ written (now (d .entry)) 0 (headBytes (edition ∷ n ∷ x ∷ t ∷ accepted ∷ wanted ∷ offsets n)) ⌝ }
+fn put_head(d: &mut [u8], c: rule::Counts)
+    requires { ⌜ (48 ≤ length (now d)) × (c .n ≤ 256) ⌝ }
+    ensures { λ r. ⌜ now (d .exit) ≡ written (now (d .entry)) 0 (headBytes (edition ∷ c .n ∷ c .x ∷ c .t ∷ c .accepted ∷ c .wanted ∷ offsets (c .n))) ⌝ }
 {
-    put_counts(d, 0, 1, n, x, t);
-    put_counts(d, 16, accepted, wanted, 48, 48 + 4 * n);
+    let n = c.n as u64;
+    put_counts(d, 0, 1, n, c.x, c.t);
+    put_counts(d, 16, c.accepted, c.wanted, 48, 48 + 4 * n);
     put_counts(d, 32, 48 + 8 * n, 48 + 12 * n, 48 + 16 * n, 24 + 40 * n);
 }
 
@@ -54,11 +55,7 @@ fn put_levels(d: &mut [u8], n: usize, q: &[i64], f: &[i64])
 // The file of a channel, in a buffer of its length.
 pub fn put(
     d: &mut [u8],
-    n: usize,
-    x: u64,
-    t: u64,
-    accepted: u64,
-    wanted: u64,
+    c: rule::Counts,
     h: &[i64],
     e: &[i64],
     u: &[i64],
@@ -66,21 +63,17 @@ pub fn put(
     q: &[i64],
     f: &[i64],
 )
-    requires { ⌜ (length (now d) ≡ lengthOf n) × Writable n (now h) (now e) (now u) (now v) (now q) (now f) ⌝ }
-    ensures { λ r. ⌜ now (d .exit) ≡ fileOf (channel n x t accepted wanted (now (h .entry)) (now (e .entry)) (now (u .entry)) (now (v .entry)) (now (q .entry)) (now (f .entry))) ⌝ }
+    requires { ⌜ (length (now d) ≡ lengthOf (c .n)) × Writable (c .n) (now h) (now e) (now u) (now v) (now q) (now f) ⌝ }
+    ensures { λ r. ⌜ now (d .exit) ≡ fileOf (counted c (now (h .entry)) (now (e .entry)) (now (u .entry)) (now (v .entry)) (now (q .entry)) (now (f .entry))) ⌝ }
 {
-    put_head(d, n as u64, x, t, accepted, wanted);
-    put_cells(d, n, h, e, u, v);
-    put_levels(d, n, q, f);
+    put_head(d, c);
+    put_cells(d, c.n, h, e, u, v);
+    put_levels(d, c.n, q, f);
 }
 
 // A channel's file, written into a buffer of exactly its length. A refused call leaves the buffer as it was.
 pub fn write(
-    n: usize,
-    x: u64,
-    t: u64,
-    accepted: u64,
-    wanted: u64,
+    c: rule::Counts,
     h: &[i64],
     e: &[i64],
     u: &[i64],
@@ -89,15 +82,15 @@ pub fn write(
     f: &[i64],
     d: &mut [u8],
 ) -> rule::Answer
-    ensures { λ r. ⌜ leavesBytes r (now (d .exit)) ≡ writeCall (channel n x t accepted wanted (now (h .entry)) (now (e .entry)) (now (u .entry)) (now (v .entry)) (now (q .entry)) (now (f .entry))) (now (d .entry)) ⌝ }
+    ensures { λ r. ⌜ leavesBytes r (now (d .exit)) ≡ writeCall (counted c (now (h .entry)) (now (e .entry)) (now (u .entry)) (now (v .entry)) (now (q .entry)) (now (f .entry))) (now (d .entry)) ⌝ }
 {
-    let number = checks::check(n, x, t, accepted, wanted, h, e, u, v, q, f, false, h);
+    let number = checks::check(c, h, e, u, v, q, f, false, h);
     if number != 0 {
         return answers::refused(number, 0);
     }
-    if d.len() != 24 + 64 * n {
+    if d.len() != 24 + 64 * c.n {
         return answers::refused(15, 0);
     }
-    put(d, n, x, t, accepted, wanted, h, e, u, v, q, f);
+    put(d, c, h, e, u, v, q, f);
     answers::accepted(0)
 }

@@ -4,6 +4,7 @@ use mathlib.Core.List.{[]}
 use native.Mathlib.Omega.{arith}
 use borrow.Author.Needs.{needs}
 use Rattle.rule.specs.Channel.{Channel, channel}
+use Rattle.rule.specs.Counted.{counted}
 use Rattle.rule.specs.Refusals.{numberOf}
 use Rattle.rule.specs.Checks.{ready}
 use Rattle.rule.specs.Filter.{smoothed, smoothedReduced}
@@ -20,7 +21,7 @@ use Rattle.filter.proofs.filter.Tie as tie
 abbrev lent : tie.After-ready → Channel
 lent c =
     let a = c .before .before .before .before .before .before .args in
-    channel (a .n) (a .x) (a .t) (a .accepted) (a .wanted) (a .h .now) (a .e .now) (a .u .now) (a .v .now) (a .q .now) (a .f .now)
+    counted (a .c) (a .h .now) (a .e .now) (a .u .now) (a .v .now) (a .q .now) (a .f .now)
 
 -- past the checks of the input
 passed : (c : tie.Else1) → numberOf (ready (lent (c .before)) []) ≡ 0

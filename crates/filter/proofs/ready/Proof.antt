@@ -3,6 +3,7 @@ use mathlib.Core.Path.{_≡_, sym, _∙_}
 use mathlib.Core.List.{[]}
 use borrow.Author.Needs.{needs}
 use Rattle.rule.specs.Channel.{Channel, channel}
+use Rattle.rule.specs.Counted.{counted}
 use Rattle.rule.specs.Refusals.{numberOf}
 use Rattle.rule.specs.Checks.{checked}
 use Rattle.filter.specs.Filtered.{not-checked, is-complete, is-ready}
@@ -12,7 +13,7 @@ use Rattle.filter.proofs.ready.Tie as tie
 abbrev lent : tie.After-check → Channel
 lent c =
     let a = c .before .args in
-    channel (a .n) (a .x) (a .t) (a .accepted) (a .wanted) (a .h .now) (a .e .now) (a .u .now) (a .v .now) (a .q .now) (a .f .now)
+    counted (a .c) (a .h .now) (a .e .now) (a .u .now) (a .v .now) (a .q .now) (a .f .now)
 
 passed : (c : tie.Else1) → numberOf (checked (lent (c .before)) []) ≡ 0
 passed c = sym (c .before .check .ensures) ∙ c .if1 .left
@@ -24,10 +25,10 @@ returns : tie.Need-returns
 returns c = not-checked (lent (c .before)) [] (c .before .check .result) (c .before .check .ensures) (c .if1 .taken)
 
 returns-2 : tie.Need-returns-2
-returns-2 c = is-complete (lent (c .before .before)) [] (passed (c .before)) (c .if2 .taken)
+returns-2 c = is-complete (lent (c .before .before .before)) [] (passed (c .before .before)) (c .if2 .taken)
 
 returns-3 : tie.Need-returns-3
-returns-3 c = is-ready (lent (c .before .before)) [] (passed (c .before)) (c .if2 .left)
+returns-3 c = is-ready (lent (c .before .before .before)) [] (passed (c .before .before)) (c .if2 .left)
 
 pub ready-spec : {M : Type 1} → statement M
 ready-spec = tie.close (tie.spec check-requires returns returns-2 returns-3)

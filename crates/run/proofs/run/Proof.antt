@@ -1,6 +1,6 @@
 -- `run::run` meets its contract: a run of at most all steps is a run. Assumes nothing.
 use mathlib.Core.Path.{_∙_}
-use Rattle.rule.specs.Channel.{channel}
+use Rattle.rule.specs.Counted.{counted}
 use Rattle.run.specs.Runs.{run-is}
 use borrow.Author.Needs.{needs}
 use Rattle.run.proofs.run.Statement.{statement}
@@ -26,8 +26,8 @@ same-length-5 c = search needs
 
 returns : tie.Need-returns
 returns c =
-    let s = c .before .before .before .before .before .before .before .before .before .before .before .before in
-    c .before .before .before .before .before .run-for .ensures ∙ run-is (channel (s .args .n) (s .args .x) (s .args .t) (s .args .accepted .now) (s .args .wanted) (s .args .h .now) (s .args .e .now) (s .args .u .now) (s .args .v .now) (s .args .q .now) (s .args .f .now))
+    let s = c .before .before .before .before .before .before .before .before .before .before .before in
+    c .before .before .before .before .before .run-for .ensures ∙ run-is (counted (s .args .c) (s .args .h .now) (s .args .e .now) (s .args .u .now) (s .args .v .now) (s .args .q .now) (s .args .f .now))
 
 pub run-spec : {M : Type 1} → statement M
 run-spec =

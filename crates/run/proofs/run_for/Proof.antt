@@ -3,7 +3,8 @@ use Prim.Native.Nat.{ℕ}
 use mathlib.Core.List.{[]}
 use mathlib.Core.Path.{_≡_, _∙_, ap}
 use native.Mathlib.Omega.{arith}
-use Rattle.rule.specs.Channel.{Channel, channel}
+use Rattle.rule.specs.Channel.{Channel}
+use Rattle.rule.specs.Counted.{counted}
 use Rattle.rule.specs.Refusals.{numberOf}
 use Rattle.rule.specs.Checks.{checked}
 use Rattle.answers.specs.Stages.{leaves}
@@ -13,20 +14,20 @@ use Rattle.run.proofs.run_for.Statement.{statement}
 use Rattle.run.proofs.run_for.Tie as tie
 
 abbrev Inv-loop : tie.InvT-loop
-Inv-loop most n x t accepted₀ wanted h e₀ u₀ v₀ q₀ f₀ start number count₀ left₀ accepted e u v q f count left =
-    Running most (channel n x t accepted₀ wanted h e₀ u₀ v₀ q₀ f₀) accepted e u v q f count left
+Inv-loop most k h e₀ u₀ v₀ q₀ f₀ number accepted₀ count₀ steps₀ e u v q f accepted count steps =
+    Running most (counted k h e₀ u₀ v₀ q₀ f₀) accepted e u v q f count steps
 
 abbrev μ-loop : tie.MeasureT-loop
-μ-loop most n x t accepted₀ wanted h e₀ u₀ v₀ q₀ f₀ start number count₀ left₀ accepted e u v q f count left = left
+μ-loop most k h e₀ u₀ v₀ q₀ f₀ number accepted₀ count₀ steps₀ e u v q f accepted count steps = steps
 
 -- the channel that a run was lent, after its checks
 abbrev lent : tie.After-check Inv-loop μ-loop → Channel
 lent c =
-    let s = c .before .before .before .before .before .before .before in
-    channel (s .args .n) (s .args .x) (s .args .t) (s .args .accepted .now) (s .args .wanted) (s .args .h .now) (s .args .e .now) (s .args .u .now) (s .args .v .now) (s .args .q .now) (s .args .f .now)
+    let s = c .before .before .before .before .before .before in
+    counted (s .args .c) (s .args .h .now) (s .args .e .now) (s .args .u .now) (s .args .v .now) (s .args .q .now) (s .args .f .now)
 
 abbrev most : tie.After-check Inv-loop μ-loop → ℕ
-most c = c .before .before .before .before .before .before .before .args .most
+most c = c .before .before .before .before .before .before .args .most
 
 passed : (c : tie.Else1 Inv-loop μ-loop) → 0 ≡ numberOf (checked (lent (c .before)) [])
 passed c = omega (arith, c .if1 .left, c .before .check .ensures)
@@ -58,13 +59,13 @@ returns c =
     ap (λ a. leaves a (lent k)) (c .refused .ensures) ∙ run-early (most k) (lent k) (k .check .result) (k .check .ensures) (c .before .if1 .taken)
 
 sub-fewer : tie.Need-sub-fewer Inv-loop μ-loop
-sub-fewer c = run-room (lent (c .before)) (passed c)
+sub-fewer c = run-room (lent (c .before .before)) (passed (c .before))
 
 fewer-requires : tie.Need-fewer-requires Inv-loop μ-loop
 fewer-requires c κs = search needs
 
 loop-holds : tie.Need-loop-holds Inv-loop μ-loop
-loop-holds c = rw (c .fewer .ensures) (run-starts (most (c .before .before)) (lent (c .before .before)) (passed (c .before)))
+loop-holds c = rw (c .fewer .ensures) (run-starts (most (c .before .before .before)) (lent (c .before .before .before)) (passed (c .before .before)))
 
 still-step-requires : tie.Need-still-step-requires Inv-loop μ-loop
 still-step-requires c κs = search needs
@@ -86,24 +87,24 @@ same-length-10 c = search needs
 
 returns-2 : tie.Need-returns-2 Inv-loop μ-loop
 returns-2 c =
-    let k = c .before .before .before .before .before .before .before .before .before .before .before .before .before .before .before .before .before .before in
-    let s = c .before .before .before .before .before .before .before .still-step in
-    run-stops (most k) (lent k) (c .before .before .before .before .before .before .before .before .before .before .before .before .before .before .before .loop .inv) (omega (arith, c .before .before .before .before .before .before .before .before .before .before .before .before .before .before .loop-test .taken)) (s .result) _ _ _ _ _ _ (s .ensures) (c .if2 .taken)
+    let k = c .before .before .before .before .before .before .before .before .before .before .before .before .before .before .before .before .before .before .before in
+    let s = c .before .before .before .before .before .before .before .before .still-step in
+    run-stops (most k) (lent k) (c .before .before .before .before .before .before .before .before .before .before .before .before .before .before .before .loop .inv) (omega (arith, c .before .before .before .before .before .before .before .before .before .before .before .before .before .before .loop-test .taken)) (s .result .answer) (s .result .accepted) _ _ _ _ _ (s .ensures) (c .if2 .taken)
 
 add-count : tie.Need-add-count Inv-loop μ-loop
 add-count c = record { fits = omega (arith, c .before .before .before .before .before .before .before .before .before .before .before .before .before .before .before .loop .inv .counted) }
 
-sub-left : tie.Need-sub-left Inv-loop μ-loop
-sub-left c = search needs
+sub-steps : tie.Need-sub-steps Inv-loop μ-loop
+sub-steps c = search needs
 
 loop-less : tie.Need-loop-less Inv-loop μ-loop
 loop-less c = search needs
 
 loop-again : tie.Need-loop-again Inv-loop μ-loop
 loop-again c =
-    let k = c .before .before .before .before .before .before .before .before .before .before .before .before .before .before .before .before .before .before in
-    let s = c .before .before .before .before .before .before .before .still-step in
-    run-on (most k) (lent k) (c .before .before .before .before .before .before .before .before .before .before .before .before .before .before .before .loop .inv) (omega (arith, c .before .before .before .before .before .before .before .before .before .before .before .before .before .before .loop-test .taken)) (s .result) _ _ _ _ _ _ (s .ensures) (c .if2 .left) (s .kept .1 .1 .1 .1 .1 .1 .0) (s .kept .1 .1 .1 .1 .1 .1 .1 .0) (s .kept .1 .1 .1 .1 .1 .1 .1 .1 .0) (s .kept .1 .1 .1 .1 .1 .1 .1 .1 .1 .0) (s .kept .1 .1 .1 .1 .1 .1 .1 .1 .1 .1 .0)
+    let k = c .before .before .before .before .before .before .before .before .before .before .before .before .before .before .before .before .before .before .before in
+    let s = c .before .before .before .before .before .before .before .before .still-step in
+    run-on (most k) (lent k) (c .before .before .before .before .before .before .before .before .before .before .before .before .before .before .before .loop .inv) (omega (arith, c .before .before .before .before .before .before .before .before .before .before .before .before .before .before .loop-test .taken)) (s .result .answer) (s .result .accepted) _ _ _ _ _ (s .ensures) (c .if2 .left) (s .kept .1 .1 .0) (s .kept .1 .1 .1 .0) (s .kept .1 .1 .1 .1 .0) (s .kept .1 .1 .1 .1 .1 .0) (s .kept .1 .1 .1 .1 .1 .1 .0)
 
 at-end-requires : tie.Need-at-end-requires Inv-loop μ-loop
 at-end-requires c κs = search needs
@@ -126,7 +127,7 @@ same-length-15 c = search needs
 returns-3 : tie.Need-returns-3 Inv-loop μ-loop
 returns-3 c =
     let l = c .before .before in
-    let k = l .before .before .before in
+    let k = l .before .before .before .before in
     ap (λ a. leaves a (now (most k) (lent k) (l .loop .accepted) (l .loop .e) (l .loop .u) (l .loop .v) (l .loop .q) (l .loop .f))) (c .at-end .ensures)
     ∙ run-ends (most k) (lent k) (l .loop .inv) (omega (arith, c .before .loop-test .left))
 
@@ -155,7 +156,7 @@ run-for-spec =
     same-length-10
     returns-2
     add-count
-    sub-left
+    sub-steps
     loop-less
     loop-again
     at-end-requires

@@ -2,7 +2,7 @@
 use mathlib.Core.Path.{sym, _∙_, ap}
 use native.Mathlib.Omega.{arith}
 use lib.Seq.{length-take-le}
-use Rattle.rule.specs.Channel.{channel}
+use Rattle.rule.specs.Counted.{counted}
 use Rattle.rule.specs.Calls.{stepCall}
 use Rattle.run.specs.Runs.{nothing, nothing-poured}
 use borrow.Author.Needs.{needs}
@@ -35,9 +35,9 @@ same-length-5 c = search needs
 
 returns : tie.Need-returns
 returns c =
-    let s = c .before .before .before .before .before .before .before .before .before .before .before .before .before in
+    let s = c .before .before .before .before .before .before .before .before .before .before .before .before in
     c .before .before .before .before .before .step .ensures
-    ∙ ap (stepCall (channel (s .args .n) (s .args .x) (s .args .t) (s .args .accepted .now) (s .args .wanted) (s .args .h .now) (s .args .e .now) (s .args .u .now) (s .args .v .now) (s .args .q .now) (s .args .f .now))) (nothing-poured (s .args .n) (s .pre))
+    ∙ ap (stepCall (counted (s .args .c) (s .args .h .now) (s .args .e .now) (s .args .u .now) (s .args .v .now) (s .args .q .now) (s .args .f .now))) (nothing-poured (s .args .c .n) (s .pre))
 
 pub still-step-spec : {M : Type 1} → statement M
 still-step-spec =

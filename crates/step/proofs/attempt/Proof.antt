@@ -4,7 +4,8 @@ use mathlib.Core.Path.{_≡_, sym, _∙_, subst}
 use mathlib.Core.List.{[], _∷_}
 use borrow.Author.Needs.{needs}
 use Rattle.rule.specs.Rows.{Row}
-use Rattle.rule.specs.Channel.{Channel, channel}
+use Rattle.rule.specs.Channel.{Channel}
+use Rattle.rule.specs.Counted.{counted}
 use Rattle.rule.specs.Refusals.{numberOf}
 use Rattle.rule.specs.Checks.{checked}
 use Rattle.stage.specs.Trials.{stopped}
@@ -14,7 +15,7 @@ use Rattle.step.proofs.attempt.Tie as tie
 
 abbrev lent : tie.Start → Channel
 lent s =
-    channel (s .args .n) (s .args .x) (s .args .t) (s .args .accepted) (s .args .wanted) (s .args .h .now) (s .args .e .now) (s .args .u .now) (s .args .v .now) (s .args .q .now) (s .args .f .now)
+    counted (s .args .c) (s .args .h .now) (s .args .e .now) (s .args .u .now) (s .args .v .now) (s .args .q .now) (s .args .f .now)
 
 abbrev poured : tie.Start → Row
 poured s = s .args .s .now
@@ -39,16 +40,16 @@ refused-requires-2 c κs = search needs
 
 returns-2 : tie.Need-returns-2
 returns-2 c =
-    let s = c .before .before .before .before in
-    subst (Attempted (lent s) (poured s)) (sym (c .refused2 .ensures)) (attempt-complete (lent s) (poured s) (passed (c .before .before)) (stopped 11) (c .before .if2 .taken))
+    let s = c .before .before .before .before .before in
+    subst (Attempted (lent s) (poured s)) (sym (c .refused2 .ensures)) (attempt-complete (lent s) (poured s) (passed (c .before .before .before)) (stopped 11) (c .before .if2 .taken))
 
 advance-requires : tie.Need-advance-requires
-advance-requires c κs = stages-ask (lent (c .before .before .before)) (poured (c .before .before .before)) (passed (c .before))
+advance-requires c κs = stages-ask (lent (c .before .before .before .before)) (poured (c .before .before .before .before)) (passed (c .before .before))
 
 returns-3 : tie.Need-returns-3
 returns-3 c =
-    let s = c .before .before .before .before in
-    attempt-goes (lent s) (poured s) (passed (c .before .before)) (c .advance .result) (c .before .if2 .left) (c .advance .ensures)
+    let s = c .before .before .before .before .before in
+    attempt-goes (lent s) (poured s) (passed (c .before .before .before)) (c .advance .result) (c .before .if2 .left) (c .advance .ensures)
 
 pub attempt-spec : {M : Type 1} → statement M
 attempt-spec =

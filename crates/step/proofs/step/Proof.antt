@@ -5,17 +5,18 @@ use native.Mathlib.Numerals.{add-one}
 use native.Mathlib.Omega.{arith}
 use borrow.Author.Needs.{needs}
 use Rattle.rule.specs.Rows.{Row}
-use Rattle.rule.specs.Channel.{Channel, channel}
+use Rattle.rule.specs.Channel.{Channel}
+use Rattle.rule.specs.Counted.{counted}
 use Rattle.step.specs.Attempt.{Attempted, cells-ask, levels-ask, count-fits, step-refused, step-accepted}
 use Rattle.step.proofs.step.Statement.{statement}
 use Rattle.step.proofs.step.Tie as tie
 
 abbrev lent : tie.Start → Channel
 lent s =
-    channel (s .args .n) (s .args .x) (s .args .t) (s .args .accepted .now) (s .args .wanted) (s .args .h .now) (s .args .e .now) (s .args .u .now) (s .args .v .now) (s .args .q .now) (s .args .f .now)
+    counted (s .args .c) (s .args .h .now) (s .args .e .now) (s .args .u .now) (s .args .v .now) (s .args .q .now) (s .args .f .now)
 
 -- what the attempt came to
-attempted : (c : tie.After-attempt) → Attempted (lent (c .before .before .before .before .before .before .before)) (c .before .before .before .before .before .before .before .args .s .now) (c .attempt .result)
+attempted : (c : tie.After-attempt) → Attempted (lent (c .before .before .before .before .before .before)) (c .before .before .before .before .before .before .args .s .now) (c .attempt .result)
 attempted c = c .attempt .ensures
 
 attempt-requires : tie.Need-attempt-requires
@@ -39,14 +40,21 @@ same-length-5 c = search needs
 returns : tie.Need-returns
 returns c = step-refused (attempted (c .before)) (c .if1 .taken)
 
+-- the attempt that was accepted, from where its rows are stored, and from the end
+abbrev accepted : tie.After-keep-cells → tie.Else1
+accepted c = c .before .before .before .before .before .before .before .before .before .before .before .before .before
+
+abbrev stored : tie.After-struct-known → tie.After-keep-cells
+stored c = c .before .before .before .before .before .before .before .before .before .before .before
+
 keep-cells-requires : tie.Need-keep-cells-requires
-keep-cells-requires c κs = cells-ask (attempted (c .before .before .before .before .before .before .before .before .before .before .before .before .before)) (c .before .before .before .before .before .before .before .before .before .before .before .before .if1 .left)
+keep-cells-requires c κs = let z = c .before .before .before .before .before .before .before .before .before .before .before .before in cells-ask (attempted (z .before)) (z .if1 .left)
 
 push-levels-requires : tie.Need-push-levels-requires
-push-levels-requires c κs = levels-ask (attempted (c .before .before .before .before .before .before .before .before .before .before .before .before .before .before .before .before .before .before .before .before .before)) (c .before .before .before .before .before .before .before .before .before .before .before .before .before .before .before .before .before .before .before .before .if1 .left)
+push-levels-requires c κs = let z = accepted (c .before .before .before .before .before .before .before) in levels-ask (attempted (z .before)) (z .if1 .left)
 
 add-accepted : tie.Need-add-accepted
-add-accepted c = count-fits (attempted (c .before .before .before .before .before .before .before .before .before .before .before .before .before .before .before .before .before .before .before .before .before .before .before .before)) (c .before .before .before .before .before .before .before .before .before .before .before .before .before .before .before .before .before .before .before .before .before .before .before .if1 .left)
+add-accepted c = let z = accepted (c .before .before .before .before .before .before .before .before .before .before .before) in count-fits (attempted (z .before)) (z .if1 .left)
 
 same-length-6 : tie.Need-same-length-6
 same-length-6 c = search needs
@@ -65,9 +73,10 @@ same-length-10 c = search needs
 
 returns-2 : tie.Need-returns-2
 returns-2 c =
-    let cells = c .before .before .before .before .before .before .before .before .before .before .keep-cells .ensures in
-    let levels = c .before .before .push-levels .ensures in
-    step-accepted (attempted (c .before .before .before .before .before .before .before .before .before .before .before .before .before .before .before .before .before .before .before .before .before .before .before .before)) (c .before .before .before .before .before .before .before .before .before .before .before .before .before .before .before .before .before .before .before .before .before .before .before .if1 .left) _ _ _ _ _ _ (add-one (c .before .before .before .before .before .before .before .before .before .before .before .before .before .before .before .before .before .before .before .before .before .before .before .before .before .before .before .before .before .before .before .args .accepted .now)) (cells .0) (cells .1) (cells .2) (levels .0) (levels .1)
+    let z = accepted (stored c) in
+    let cells = stored c .keep-cells .ensures in
+    let levels = c .before .before .before .push-levels .ensures in
+    step-accepted (attempted (z .before)) (z .if1 .left) _ _ _ _ _ _ (add-one (c .before .before .before .before .before .before .before .before .before .before .before .before .before .before .before .before .before .before .before .before .before .before .before .before .before .before .before .before .before .before .before .args .c .accepted)) (cells .0) (cells .1) (cells .2) (levels .0) (levels .1)
 
 pub step-spec : {M : Type 1} → statement M
 step-spec =

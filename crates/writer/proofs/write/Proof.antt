@@ -4,7 +4,8 @@ use mathlib.Core.Path.{_≡_, sym, _∙_}
 use mathlib.Core.List.{[]}
 use native.Mathlib.Omega.{arith}
 use borrow.Author.Needs.{needs}
-use Rattle.rule.specs.Channel.{Channel, channel}
+use Rattle.rule.specs.Channel.{Channel}
+use Rattle.rule.specs.Counted.{counted}
 use Rattle.rule.specs.Refusals.{numberOf}
 use Rattle.rule.specs.Checks.{checked}
 use Rattle.rule.specs.File.{lengthOf}
@@ -18,7 +19,7 @@ use Rattle.writer.proofs.write.Tie as tie
 abbrev given : tie.After-check → Channel
 given c =
     let a = c .before .before .args in
-    channel (a .n) (a .x) (a .t) (a .accepted) (a .wanted) (a .h .now) (a .e .now) (a .u .now) (a .v .now) (a .q .now) (a .f .now)
+    counted (a .c) (a .h .now) (a .e .now) (a .u .now) (a .v .now) (a .q .now) (a .f .now)
 
 -- past the checks
 passed : (c : tie.Else1) → numberOf (checked (given (c .before)) []) ≡ 0
@@ -40,10 +41,10 @@ returns c =
     write-checked (given k) d (c .refused .result) (k .check .result) (c .refused .ensures) (k .check .ensures) (c .before .if1 .taken)
 
 mul-if2 : tie.Need-mul-if2
-mul-if2 c = let f = few c in search needs
+mul-if2 c = let f = few (c .before) in search needs
 
 add-if2 : tie.Need-add-if2
-add-if2 c = let f = few c in search needs
+add-if2 c = let f = few (c .before) in search needs
 
 refused-requires-2 : tie.Need-refused-requires-2
 refused-requires-2 c κs = search needs
@@ -51,13 +52,13 @@ refused-requires-2 c κs = search needs
 returns-2 : tie.Need-returns-2
 unfolding lengthOf
 returns-2 c =
-    let k = c .before .before in
+    let k = c .before .before .before in
     let d = k .before .before .before .args .d .now in
     write-unfit (given (k .before)) d (c .refused2 .result) (passed k) (c .refused2 .ensures) (λ e. c .before .if2 .taken (omega arith))
 
 put-requires : tie.Need-put-requires
 unfolding lengthOf
-put-requires c κs = let k = c .before .before in (omega arith, writable-of (given (k .before)) [] (passed k))
+put-requires c κs = let k = c .before .before .before in (omega arith, writable-of (given (k .before)) [] (passed k))
 
 accepted-requires : tie.Need-accepted-requires
 accepted-requires c κs = search needs
@@ -69,7 +70,7 @@ returns-3 : tie.Need-returns-3
 unfolding lengthOf
 returns-3 c =
     let p = c .before .before .before in
-    let k = p .before .before .before in
+    let k = p .before .before .before .before in
     let d = k .before .before .before .args .d .now in
     write-fit (given (k .before)) d (c .accepted .result) (passed k) (p .put .last .0) (c .accepted .ensures) (p .put .ensures) (omega (arith, p .before .before .if2 .left))
 
