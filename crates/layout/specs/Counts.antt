@@ -64,15 +64,15 @@ same-firsts ns s at i x y p h q r = (λ j. p j && eqb (q j) (r j)) ∙ same-more
 
 -- the first counts of ns are written from `at` on
 pub written-firsts :
-    (ns d e f : List ℕ) (at i x : ℕ) → e ≡ written d at (headBytes (take i ns)) → at ≤ length d → i < length ns → x ≡ getD ns i 0 → f ≡ written e (at + 4 * i) (bytes 4 x) →
+    (ns d e f : List ℕ) (at i x next : ℕ) → e ≡ written d at (headBytes (take i ns)) → at ≤ length d → i < length ns → next ≡ at + 4 * i → x ≡ getD ns i 0 → f ≡ written e next (bytes 4 x) →
     f ≡ written d at (headBytes (take (i + 1) ns))
 unfolding headBytes
-written-firsts ns d e f at i x p h l z q =
+written-firsts ns d e f at i x next p h l g z q =
     let k : length (take i ns) ≡ i = length-take-le i ns (omega arith) in
     let m : length (headBytes (take i ns)) ≡ 4 * i = length-head (take i ns) ∙ ap (λ j. 4 * j) k in
     q
-    ∙ ap (λ t. written t (at + 4 * i) (bytes 4 x)) p
-    ∙ written-then d at (headBytes (take i ns)) (bytes 4 x) (at + 4 * i) (omega arith) h
+    ∙ ap (λ t. written t next (bytes 4 x)) p
+    ∙ written-then d at (headBytes (take i ns)) (bytes 4 x) next (omega arith) h
     ∙ ap (written d at)
     (ap (λ y. headBytes (take i ns) ++ bytes 4 y) z
     ∙ ap (λ t. headBytes (take i ns) ++ t) (sym (append-nil (bytes 4 (getD ns i 0))))

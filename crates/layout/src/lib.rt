@@ -11,6 +11,9 @@ ghost use Rattle.little.specs.Written.{written};
 // The edition that is read and written.
 pub const EDITION: u64 = 1;
 
+// How many bytes a reader has to see of any edition.
+pub const LEAST_LENGTH: usize = 48;
+
 // How many counts stand before the offsets.
 pub fn counts_in(edition: u64) -> usize
     ensures { λ r. ⌜ (r ≡ countsIn edition) × (r ≤ 7) ⌝ }

@@ -62,7 +62,7 @@ loop-again c =
     let more : l .i < length (offsets (a .edition) (a .n)) = omega (arith, c .before .before .before .before .before .loop-test .taken, r, length-offsets (a .edition) (a .n)) in (
       omega arith,
       omega arith,
-      written-firsts (offsets (a .edition) (a .n)) (a .d .now) (l .d) _ _ (l .i) _ (l .inv .2) (omega (arith, k, s .pre)) more (c .before .before .before .start-of .ensures) (c .before .before .put-count .ensures),
+      written-firsts (offsets (a .edition) (a .n)) (a .d .now) (l .d) _ _ (l .i) _ _ (l .inv .2) (omega (arith, k, s .pre)) more refl (c .before .before .before .start-of .ensures) (c .before .before .put-count .ensures),
     )
 
 same-length : tie.Need-same-length Inv-loop μ-loop
