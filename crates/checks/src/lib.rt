@@ -203,16 +203,16 @@ fn make_shaped(n: usize, h: &[i64], e: &[i64], u: &[i64]) -> bool
     cells_allowed(n) & ((h.len() == n) & (e.len() == n) & (u.len() == n))
 }
 
-// The checks of make's input: 0, or the number of the first that fails.
-pub fn check_made(n: usize, x: u64, t: u64, wanted: u64, h: &[i64], e: &[i64], u: &[i64]) -> u64
-    ensures { λ r. ⌜ r ≡ numberOf (makeChecked n x t wanted (now (h .entry)) (now (e .entry)) (now (u .entry))) ⌝ }
+// The checks of make's input, whose count of accepted steps is not looked at: 0, or the number of the first that fails.
+pub fn check_made(c: rule::Counts, h: &[i64], e: &[i64], u: &[i64]) -> u64
+    ensures { λ r. ⌜ r ≡ numberOf (makeChecked (c .n) (c .x) (c .t) (c .wanted) (now (h .entry)) (now (e .entry)) (now (u .entry))) ⌝ }
 {
-    let shape = make_shaped(n, h, e, u);
-    let counts = counts_allowed(x, t, wanted, 0);
+    let shape = make_shaped(c.n, h, e, u);
+    let allowed = counts_allowed(c.x, c.t, c.wanted, 0);
     let values = values_allowed(h, e, u);
-    let number = first(shape, counts, values);
+    let number = first(shape, allowed, values);
     if number != 0 {
         return number;
     }
-    wet(n, x, h, e)
+    wet(c.n, c.x, h, e)
 }

@@ -3,7 +3,7 @@
 use mathlib.Core.Path.{_≡_, refl, sym, _∙_, ap}
 use mathlib.Core.List.{List, [], _∷_}
 use Rattle.rule.specs.Rows.{Row}
-use Rattle.rule.specs.Channel.{Channel, channel, filled}
+use Rattle.rule.specs.Channel.{Channel, moved, filled}
 use Rattle.rule.specs.Refusals.{Outcome, refused, done, shape}
 use Rattle.rule.specs.Acceleration.{accelerations}
 use Rattle.rule.specs.Make.{reducedVelocities, makeChecked, make}
@@ -16,7 +16,7 @@ use Rattle.water.specs.Calls.{step-accepted, filter-accepted}
 
 -- d in the basin of c
 abbrev pub like : Channel → Channel → Channel
-like c d = channel (c .N) (c .X) (c .T) (d .accepted) (c .wanted) (c .h) (d .e) (d .u) (d .v) (d .Q) (d .F)
+like c d = moved c (d .accepted) (d .e) (d .u) (d .v) (d .Q) (d .F)
 
 by-step : (c : Channel) (s : Row) (o : Outcome Stepped) → step c s ≡ o → let d = called c (λ t. t .passes) (λ t. t .channel) o .left in like c d ≡ d
 unfolding called accept
@@ -29,7 +29,7 @@ step-like c s = by-step c s (step c s) refl
 
 -- and with its count of accepted steps, which a filter pass leaves too
 abbrev pub still-like : Channel → Channel → Channel
-still-like c d = channel (c .N) (c .X) (c .T) (c .accepted) (c .wanted) (c .h) (d .e) (d .u) (d .v) (d .Q) (d .F)
+still-like c d = moved c (c .accepted) (d .e) (d .u) (d .v) (d .Q) (d .F)
 
 by-filter : (c : Channel) (o : Outcome Channel) → filter c ≡ o → let d = plainly c o .left in still-like c d ≡ d
 unfolding plainly called
@@ -58,7 +58,7 @@ is-like c d calls e = ap (like c) e ∙ after-like c calls ∙ sym e
 
 -- a channel that is made
 abbrev pub made-like : Channel → Channel → Channel
-made-like c d = channel (c .N) (c .X) (c .T) (d .accepted) (c .wanted) (c .h) (c .e) (c .u) (d .v) (d .Q) (d .F)
+made-like c d = moved c (d .accepted) (c .e) (c .u) (d .v) (d .Q) (d .F)
 
 made-of : (c d : Channel) → make (c .N) (c .X) (c .T) (c .wanted) (c .h) (c .e) (c .u) ≡ done d → made-like c d ≡ d
 unfolding make
@@ -66,7 +66,7 @@ made-of c d m =
     let k = came (makeChecked (c .N) (c .X) (c .T) (c .wanted) (c .h) (c .e) (c .u)) _ d m in
     let v = came (reducedVelocities (c .N) (c .X) (c .h) (c .u)) _ d (k .rest) in
     let Q = came _ _ d (v .rest) in
-    let is : channel (c .N) (c .X) (c .T) 0 (c .wanted) (c .h) (c .e) (c .u) (v .mid) (filled (Q .mid)) (filled (accelerations (c .N) (c .X) (c .e) (c .u))) ≡ d = cc (Q .rest) in
+    let is : moved c 0 (c .e) (c .u) (v .mid) (filled (Q .mid)) (filled (accelerations (c .N) (c .X) (c .e) (c .u))) ≡ d = cc (Q .rest) in
     ap (made-like c) (sym is) ∙ is
 
 by-make : (c : Channel) (m : Outcome Channel) → ((d : Channel) → m ≡ done d → made-like c d ≡ d) → let d = plainly c m .left in made-like c d ≡ d

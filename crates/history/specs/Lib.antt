@@ -1,4 +1,5 @@
 pub mod Outcomes
+pub mod Lent
 pub mod Steps
 pub mod Filters
 pub mod Runs

@@ -2,30 +2,26 @@
 use denote.Ref.{now}
 use Rattle.rule.specs.declared.Answer.{Answer}
 use Rattle.rule.specs.Rows.{Row}
-use Rattle.rule.specs.Channel.{Channel, channel}
+use Rattle.rule.specs.Channel.{Channel}
+use Rattle.rule.specs.Counted.{after}
 use Rattle.step.proofs.step.Kinds as kinds
 use Rattle.step.proofs.step.Reads.{Post}
 use Rattle.history.specs.Outcomes.{Outcome}
+use Rattle.history.specs.Lent.{lent, left}
 
 abbrev pub Step : Type 0
-Step = Outcome 8 kinds.ps kinds.r Post
+Step = Outcome 7 kinds.ps kinds.r Post
 
--- the lent values at entry, and at exit: n, x, t, accepted, wanted, h, e, u, v, q, f
+-- the channel at entry, and at exit
 abbrev pub entry : Step → Channel
-entry o =
-    let a = o .a in
-    let rows = a .1 .1 .1 .1 .1 in
-    channel (a .0) (a .1 .0) (a .1 .1 .0) (now (a .1 .1 .1 .0)) (a .1 .1 .1 .1 .0) (now (rows .0)) (now (rows .1 .0)) (now (rows .1 .1 .0)) (now (rows .1 .1 .1 .0)) (now (rows .1 .1 .1 .1 .0)) (now (rows .1 .1 .1 .1 .1 .0))
+entry o = lent (o .a .0) (o .a .1)
 
 abbrev pub exit : Step → Channel
-exit o =
-    let c = entry o in
-    let rows = o .x .1 .1 .1 .1 .1 in
-    channel (c .N) (c .X) (c .T) (now (o .x .1 .1 .1 .0)) (c .wanted) (c .h) (now (rows .1 .0)) (now (rows .1 .1 .0)) (now (rows .1 .1 .1 .0)) (now (rows .1 .1 .1 .1 .0)) (now (rows .1 .1 .1 .1 .1 .0))
+exit o = left (after (o .a .0) (o .r .accepted)) (o .a .1) (o .x .1)
 
--- the row s, of any length
+-- the poured row, after the channel's
 abbrev pub row : Step → Row
-row o = now (o .a .1 .1 .1 .1 .1 .1 .1 .1 .1 .1 .1 .0)
+row o = now (o .a .1 .1 .1 .1 .1 .1 .1 .0)
 
 abbrev pub answer : Step → Answer
-answer o = o .r
+answer o = o .r .answer

@@ -10,9 +10,12 @@ use Rattle.rule.specs.Rows.{Row}
 use Rattle.rule.specs.Channel.{Channel}
 use Rattle.little.specs.Numbers.{AreBytes}
 use Rattle.rule.specs.Calls.{Called, makeCall, readCall, stepCall, filterCall, runCall, runForCall}
+use Rattle.rule.specs.Counted.{countsOf, leftOf}
 use Rattle.answers.specs.Stages.{leaves}
+use Rattle.reader.specs.Left.{readOf}
 use Rattle.water.specs.History as rule
 use Rattle.water.specs.History.{Call, next, after}
+use Rattle.history.specs.Lent.{Rows}
 use Rattle.history.specs.Makes as makes
 use Rattle.history.specs.History as links
 use Rattle.history.specs.History.{Start, Link, History, none, then, answer, ruled, still, callsBy, calls}
@@ -29,10 +32,7 @@ forever (suc n) = ([], forever n)
 abbrev pub ref : {X : Type 0} → X → RefT X
 ref v = record { ptr = (0, 0); name = 0; now = v }
 
--- the rows of a channel, lent, before what else is
-abbrev Rows : Type 0 → Type 0
-Rows Rest = RefT Row × (RefT Row × (RefT Row × (RefT Row × (RefT Row × (RefT Row × Rest)))))
-
+-- the rows of a channel, lent
 abbrev rows : {Rest : Type 0} → Channel → Rest → Rows Rest
 rows c rest = (ref (c .h), (ref (c .e), (ref (c .u), (ref (c .v), (ref (c .Q), (ref (c .F), rest))))))
 
@@ -56,10 +56,10 @@ step-linked c s =
       link =
           links.step
           (record {
-            κs = forever 8;
-            a = (c .N, (c .X, (c .T, (ref (c .accepted), (c .wanted, rows c (ref s, tt))))));
-            r = k .answer;
-            x = (c .N, (c .X, (c .T, (ref (k .left .accepted), (c .wanted, rows (like c (k .left)) (ref s, tt))))));
+            κs = forever 7;
+            a = (countsOf c, rows c (ref s, tt));
+            r = leftOf k;
+            x = (countsOf c, rows (like c (k .left)) (ref s, tt));
             permitted = ap (leaves (k .answer)) (step-like c s);
           });
       asks = refl;
@@ -74,9 +74,9 @@ filter-linked c =
           links.filter
           (record {
             κs = forever 6;
-            a = (c .N, (c .X, (c .T, (c .accepted, (c .wanted, rows c tt)))));
+            a = (countsOf c, rows c tt);
             r = k .answer;
-            x = (c .N, (c .X, (c .T, (c .accepted, (c .wanted, rows (like c (k .left)) tt)))));
+            x = (countsOf c, rows (like c (k .left)) tt);
             permitted = ap (leaves (k .answer)) (filter-like c);
           });
       asks = refl;
@@ -90,10 +90,10 @@ run-linked c =
       link =
           links.run
           (record {
-            κs = forever 7;
-            a = (c .N, (c .X, (c .T, (ref (c .accepted), (c .wanted, rows c tt)))));
-            r = k .answer;
-            x = (c .N, (c .X, (c .T, (ref (k .left .accepted), (c .wanted, rows (like c (k .left)) tt)))));
+            κs = forever 6;
+            a = (countsOf c, rows c tt);
+            r = leftOf k;
+            x = (countsOf c, rows (like c (k .left)) tt);
             permitted = ap (leaves (k .answer)) (run-like c);
           });
       asks = refl;
@@ -107,10 +107,10 @@ run-for-linked most c =
       link =
           links.run-for
           (record {
-            κs = forever 7;
-            a = (most, (c .N, (c .X, (c .T, (ref (c .accepted), (c .wanted, rows c tt))))));
-            r = k .answer;
-            x = (most, (c .N, (c .X, (c .T, (ref (k .left .accepted), (c .wanted, rows (like c (k .left)) tt))))));
+            κs = forever 6;
+            a = (most, (countsOf c, rows c tt));
+            r = leftOf k;
+            x = (most, (countsOf c, rows (like c (k .left)) tt));
             permitted = ap (leaves (k .answer)) (run-for-like most c);
           });
       asks = refl;
@@ -199,18 +199,15 @@ make-start c z =
     let k = makeCall c in
     let o : makes.Make =
     record {
-      κs = forever 7;
-      a = (c .N, (c .X, (c .T, (ref (c .accepted), (c .wanted, rows c tt)))));
-      r = k .answer;
-      x = (c .N, (c .X, (c .T, (ref (k .left .accepted), (c .wanted, rows (made-like c (k .left)) tt)))));
+      κs = forever 6;
+      a = (countsOf c, rows c tt);
+      r = leftOf k;
+      x = (countsOf c, rows (made-like c (k .left)) tt);
       permitted = ap (leaves (k .answer)) (make-like c);
     } in
     subst Start (make-like c) (links.made o z)
 
-abbrev counts : Channel → RefT ℕ × (RefT ℕ × (RefT ℕ × (RefT ℕ × (RefT ℕ × Rows (Unit {0})))))
-counts c = (ref (c .N), (ref (c .X), (ref (c .T), (ref (c .accepted), (ref (c .wanted), rows c tt)))))
-
 pub read-start : (c : Channel) (s : List ℕ) → AreBytes s → readCall c s .answer .number ≡ 0 → Start (readCall c s .left)
 read-start c s b z =
     let k = readCall c s in
-    links.read (record { κs = forever 12; a = (ref s, counts c); r = k .answer; x = (ref s, counts (k .left)); permitted = (refl, b) }) z
+    links.read (record { κs = forever 7; a = (ref s, (countsOf c, rows c tt)); r = readOf k; x = (ref s, (countsOf c, rows (k .left) tt)); permitted = (refl, b) }) z

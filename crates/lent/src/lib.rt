@@ -21,7 +21,16 @@ pub extern "C" fn lent_make(
 ) -> rule::Answer
     ensures { λ r. ⌜ leaves r (channel n x t (now (accepted .exit)) wanted (now (h .entry)) (now (e .entry)) (now (u .entry)) (now (v .exit)) (now (q .exit)) (now (f .exit))) ≡ makeCall (channel n x t (now (accepted .entry)) wanted (now (h .entry)) (now (e .entry)) (now (u .entry)) (now (v .entry)) (now (q .entry)) (now (f .entry))) ⌝ }
 {
-    make::make(n, x, t, accepted, wanted, h, e, u, v, q, f)
+    let c = rule::Counts {
+        n,
+        x,
+        t,
+        accepted: *accepted,
+        wanted,
+    };
+    let r = make::make(c, h, e, u, v, q, f);
+    *accepted = r.accepted;
+    r.answer
 }
 
 // One step, with s poured.
@@ -42,7 +51,16 @@ pub extern "C" fn lent_step(
 ) -> rule::Answer
     ensures { λ r. ⌜ leaves r (channel n x t (now (accepted .exit)) wanted (now (h .entry)) (now (e .exit)) (now (u .exit)) (now (v .exit)) (now (q .exit)) (now (f .exit))) ≡ stepCall (channel n x t (now (accepted .entry)) wanted (now (h .entry)) (now (e .entry)) (now (u .entry)) (now (v .entry)) (now (q .entry)) (now (f .entry))) (now (s .entry)) ⌝ }
 {
-    step::step(n, x, t, accepted, wanted, h, e, u, v, q, f, s)
+    let c = rule::Counts {
+        n,
+        x,
+        t,
+        accepted: *accepted,
+        wanted,
+    };
+    let r = step::step(c, h, e, u, v, q, f, s);
+    *accepted = r.accepted;
+    r.answer
 }
 
 // One filter pass.
@@ -62,7 +80,14 @@ pub extern "C" fn lent_filter(
 ) -> rule::Answer
     ensures { λ r. ⌜ leaves r (channel n x t accepted wanted (now (h .entry)) (now (e .exit)) (now (u .exit)) (now (v .exit)) (now (q .exit)) (now (f .exit))) ≡ filterCall (channel n x t accepted wanted (now (h .entry)) (now (e .entry)) (now (u .entry)) (now (v .entry)) (now (q .entry)) (now (f .entry))) ⌝ }
 {
-    filter::filter(n, x, t, accepted, wanted, h, e, u, v, q, f)
+    let c = rule::Counts {
+        n,
+        x,
+        t,
+        accepted,
+        wanted,
+    };
+    filter::filter(c, h, e, u, v, q, f)
 }
 
 // Steps with nothing poured, until complete or refused.
@@ -82,5 +107,14 @@ pub extern "C" fn lent_run(
 ) -> rule::Answer
     ensures { λ r. ⌜ leaves r (channel n x t (now (accepted .exit)) wanted (now (h .entry)) (now (e .exit)) (now (u .exit)) (now (v .exit)) (now (q .exit)) (now (f .exit))) ≡ runCall (channel n x t (now (accepted .entry)) wanted (now (h .entry)) (now (e .entry)) (now (u .entry)) (now (v .entry)) (now (q .entry)) (now (f .entry))) ⌝ }
 {
-    run::run(n, x, t, accepted, wanted, h, e, u, v, q, f)
+    let c = rule::Counts {
+        n,
+        x,
+        t,
+        accepted: *accepted,
+        wanted,
+    };
+    let r = run::run(c, h, e, u, v, q, f);
+    *accepted = r.accepted;
+    r.answer
 }

@@ -7,24 +7,23 @@ use denote.Triple.Clauses.{AtExit}
 use borrow.Fn.Kinds.{Dens, resT, endedOf}
 use Rattle.rule.specs.Channel.{Channel}
 use Rattle.rule.specs.Calls.{Called}
+use Rattle.rule.specs.Counted.{leftOf}
 use Rattle.make.proofs.make.Kinds as kinds
 use Rattle.make.proofs.make.Reads.{Post}
 
-module _ (κs : Lfts 7) (a : Dens κs kinds.ps) (r r′ : resT kinds.r κs .Denot) (x x′ : AtExit (endedOf 7 kinds.ps kinds.r) κs) where
-  -- in the answer and in each value that is lent to be filled: the places of accepted, v, q and f among the eleven that make takes
+module _ (κs : Lfts 6) (a : Dens κs kinds.ps) (r r′ : resT kinds.r κs .Denot) (x x′ : AtExit (endedOf 6 kinds.ps kinds.r) κs) where
+  -- in the answer with the count, and in each row that is lent to be filled: the places of v, q and f among the seven that make takes
   pub record Coincide : Type 0 where
     pub answer : r ≡ r′
-    pub accepted : now (x .1 .1 .1 .0) ≡ now (x′ .1 .1 .1 .0)
-    pub v : now (x .1 .1 .1 .1 .1 .1 .1 .1 .0) ≡ now (x′ .1 .1 .1 .1 .1 .1 .1 .1 .0)
-    pub q : now (x .1 .1 .1 .1 .1 .1 .1 .1 .1 .0) ≡ now (x′ .1 .1 .1 .1 .1 .1 .1 .1 .1 .0)
-    pub f : now (x .1 .1 .1 .1 .1 .1 .1 .1 .1 .1 .0) ≡ now (x′ .1 .1 .1 .1 .1 .1 .1 .1 .1 .1 .0)
+    pub v : now (x .1 .1 .1 .1 .0) ≡ now (x′ .1 .1 .1 .1 .0)
+    pub q : now (x .1 .1 .1 .1 .1 .0) ≡ now (x′ .1 .1 .1 .1 .1 .0)
+    pub f : now (x .1 .1 .1 .1 .1 .1 .0) ≡ now (x′ .1 .1 .1 .1 .1 .1 .0)
 
   pub one-outcome : Post κs a r x → Post κs a r′ x′ → Coincide
   one-outcome p p′ =
       let same = p ∙ sym p′ in
       record {
-        answer = ap (λ (c : Called Channel). c .answer) same;
-        accepted = ap (λ (c : Called Channel). c .left .accepted) same;
+        answer = ap leftOf same;
         v = ap (λ (c : Called Channel). c .left .v) same;
         q = ap (λ (c : Called Channel). c .left .Q) same;
         f = ap (λ (c : Called Channel). c .left .F) same;

@@ -50,12 +50,12 @@ fn first(one: u64, other: u64) -> u64
 }
 
 // 1 to 5, then 15: 0, or the number of the first that fails.
-fn check(n: usize, x: u64, t: u64, wanted: u64, h: &[i64], e: &[i64], u: &[i64], room: usize) -> u64
-    requires { ⌜ n ≤ 256 ⌝ }
-    ensures { λ r. ⌜ r ≡ numberOf (tested n x t wanted (now (h .entry)) (now (e .entry)) (now (u .entry)) room) ⌝ }
+fn check(c: rule::Counts, h: &[i64], e: &[i64], u: &[i64], room: usize) -> u64
+    requires { ⌜ c .n ≤ 256 ⌝ }
+    ensures { λ r. ⌜ r ≡ numberOf (tested (c .n) (c .x) (c .t) (c .wanted) (now (h .entry)) (now (e .entry)) (now (u .entry)) room) ⌝ }
 {
-    let input = checks::check_made(n, x, t, wanted, h, e, u);
-    let length = check_buffer(n, room);
+    let input = checks::check_made(c, h, e, u);
+    let length = check_buffer(c.n, room);
     first(input, length)
 }
 
@@ -86,10 +86,7 @@ fn levels_room() -> [i64; 768]
 
 // The file of the channel that is made of h, e and u, where it is made. The rows v, q and f are filled on the way.
 fn make_in(
-    n: usize,
-    x: u64,
-    t: u64,
-    wanted: u64,
+    c: rule::Counts,
     h: &[i64],
     e: &[i64],
     u: &[i64],
@@ -98,42 +95,38 @@ fn make_in(
     f: &mut [i64],
     file: &mut [u8],
 ) -> rule::Answer
-    requires { ⌜ (length (now file) ≡ lengthOf n) × Lengths n (now h) (now e) (now u) (now v) (now q) (now f) ⌝ }
-    ensures { λ r. ⌜ leavesBytes r (now (file .exit)) ≡ filed (now (file .entry)) (rule.make n x t wanted (now (h .entry)) (now (e .entry)) (now (u .entry))) ⌝ }
+    requires { ⌜ (length (now file) ≡ lengthOf (c .n)) × Lengths (c .n) (now h) (now e) (now u) (now v) (now q) (now f) ⌝ }
+    ensures { λ r. ⌜ leavesBytes r (now (file .exit)) ≡ filed (now (file .entry)) (rule.make (c .n) (c .x) (c .t) (c .wanted) (now (h .entry)) (now (e .entry)) (now (u .entry))) ⌝ }
 {
-    let mut accepted = 0;
-    let answer = make::make(n, x, t, &mut accepted, wanted, h, e, u, v, q, f);
+    let r = make::make(c, h, e, u, v, q, f);
+    let answer = r.answer;
     if answer.number != 0 {
         return answer;
     }
-    writer::put(file, n, x, t, accepted, wanted, h, e, u, v, q, f);
+    let after = rule::Counts {
+        n: c.n,
+        x: c.x,
+        t: c.t,
+        accepted: r.accepted,
+        wanted: c.wanted,
+    };
+    writer::put(file, after, h, e, u, v, q, f);
     answer
 }
 
 // The same, with rows of its own for what is made.
-fn make_fitting(
-    n: usize,
-    x: u64,
-    t: u64,
-    wanted: u64,
-    h: &[i64],
-    e: &[i64],
-    u: &[i64],
-    file: &mut [u8],
-) -> rule::Answer
-    requires { ⌜ Fitting n (now h) (now e) (now u) (now file) ⌝ }
-    ensures { λ r. ⌜ leavesBytes r (now (file .exit)) ≡ filed (now (file .entry)) (rule.make n x t wanted (now (h .entry)) (now (e .entry)) (now (u .entry))) ⌝ }
+fn make_fitting(c: rule::Counts, h: &[i64], e: &[i64], u: &[i64], file: &mut [u8]) -> rule::Answer
+    requires { ⌜ Fitting (c .n) (now h) (now e) (now u) (now file) ⌝ }
+    ensures { λ r. ⌜ leavesBytes r (now (file .exit)) ≡ filed (now (file .entry)) (rule.make (c .n) (c .x) (c .t) (c .wanted) (now (h .entry)) (now (e .entry)) (now (u .entry))) ⌝ }
 {
+    let n = c.n;
     let faces = 3 * (n - 1);
     let cells = 3 * n;
     let mut v = cells_room();
     let mut q = levels_room();
     let mut f = levels_room();
     make_in(
-        n,
-        x,
-        t,
-        wanted,
+        c,
         h,
         e,
         u,
@@ -145,24 +138,15 @@ fn make_fitting(
 }
 
 // From rows of whole numbers.
-fn make_rows(
-    n: usize,
-    x: u64,
-    t: u64,
-    wanted: u64,
-    h: &[i64],
-    e: &[i64],
-    u: &[i64],
-    file: &mut [u8],
-) -> rule::Answer
-    requires { ⌜ n ≤ 256 ⌝ }
-    ensures { λ r. ⌜ leavesBytes r (now (file .exit)) ≡ makeRows n x t wanted (now (h .entry)) (now (e .entry)) (now (u .entry)) (now (file .entry)) ⌝ }
+fn make_rows(c: rule::Counts, h: &[i64], e: &[i64], u: &[i64], file: &mut [u8]) -> rule::Answer
+    requires { ⌜ c .n ≤ 256 ⌝ }
+    ensures { λ r. ⌜ leavesBytes r (now (file .exit)) ≡ makeRows (c .n) (c .x) (c .t) (c .wanted) (now (h .entry)) (now (e .entry)) (now (u .entry)) (now (file .entry)) ⌝ }
 {
-    let number = check(n, x, t, wanted, h, e, u, file.len());
+    let number = check(c, h, e, u, file.len());
     if number != 0 {
         return refused(number);
     }
-    make_fitting(n, x, t, wanted, h, e, u, file)
+    make_fitting(c, h, e, u, file)
 }
 
 // The channel of N, X, T, wanted and the rows h, e and u, written into a buffer of exactly its file's length. A row has four
@@ -186,11 +170,15 @@ pub fn make(
     let depths = little::read_row4(h, 0, cells);
     let heights = little::read_row4(e, 0, cells);
     let velocities = little::read_row4(u, 0, cells);
-    make_rows(
-        cells,
+    let c = rule::Counts {
+        n: cells,
         x,
         t,
+        accepted: 0,
         wanted,
+    };
+    make_rows(
+        c,
         &depths[..cells],
         &heights[..cells],
         &velocities[..cells],

@@ -9,6 +9,7 @@ use lib.ListN.{length}
 use Rattle.rule.specs.Ranges.{cellsAllowed}
 use Rattle.rule.specs.Channel.{Channel, channel, rows, filled, renewed}
 use Rattle.rule.specs.Calls.{fit}
+use Rattle.rule.specs.Counted.{counted}
 use Rattle.rows.specs.Firsts.{firsts}
 use Rattle.checks.specs.Tests.{both}
 use Rattle.checks.specs.Facts.{Lengths, cells-few, lengths-of}
@@ -21,7 +22,7 @@ use Rattle.make.proofs.make.Tie as tie
 abbrev lent : tie.After-shaped → Channel
 lent c =
     let a = c .before .before .before .before .args in
-    channel (a .n) (a .x) (a .t) (a .accepted .now) (a .wanted) (a .h .now) (a .e .now) (a .u .now) (a .v .now) (a .q .now) (a .f .now)
+    counted (a .c) (a .h .now) (a .e .now) (a .u .now) (a .v .now) (a .q .now) (a .f .now)
 
 shaped-is : (c : tie.After-shaped) → c .shaped .result ≡ cellsAllowed (lent c .N) && fit (lent c) (lent c .N)
 unfolding fit rows
@@ -38,7 +39,10 @@ long : (c : tie.Else1) → Lengths (lent (c .before) .N) (lent (c .before) .h) (
 unfolding fit rows
 long c = lengths-of _ _ _ _ _ _ _ (tests c .1)
 
--- past the work
+-- past the work, from where the rows are about to be stored
+abbrev worked : tie.After-struct-known2 → tie.After-work-out
+worked c = c .before .before .before .before .before .before
+
 arrays : (c : tie.After-work-out) → (length (c .work-out .result .v) ≡ 256) × ((length (c .work-out .result .q) ≡ 256) × (length (c .work-out .result .f) ≡ 256))
 arrays c = let ok = c .work-out .ok in search needs
 
@@ -83,24 +87,24 @@ returns-2 c =
     let l = lent (k .before .before) in
     (λ i. leaves (c .refused2 .ensures i) l) ∙ refused-by l (tests (k .before) .1) (k .work-out .result) (k .work-out .ensures) (c .before .if2 .taken)
 
+sub-faces : tie.Need-sub-faces
+sub-faces c = omega (arith, cells (worked c .before) .0)
+
 renew-requires : tie.Need-renew-requires
 renew-requires c κs =
-    let k = c .before .before .before .before .before .before .before in
+    let k = worked (c .before .before) in
     let all = arrays k in
     (cells (k .before) .1, omega (arith, long (k .before) .v-long), search needs)
 
-sub-fill : tie.Need-sub-fill
-sub-fill c = omega (arith, cells (c .before .before .before .before .before .before .before .before .before .before .before) .0)
-
 fill-requires : tie.Need-fill-requires
 fill-requires c κs =
-    let k = c .before .before .before .before .before .before .before .before .before .before .before in
+    let k = worked (c .before .before .before .before .before .before) in
     let all = arrays k in
     (omega (arith, cells (k .before) .1), long (k .before) .Q-long, search needs)
 
 fill-requires-2 : tie.Need-fill-requires-2
 fill-requires-2 c κs =
-    let k = c .before .before .before .before .before .before .before .before .before .before .before .before .before .before .before in
+    let k = worked (c .before .before .before .before .before .before .before .before .before .before) in
     let all = arrays k in
     (cells (k .before) .1, long (k .before) .F-long, search needs)
 
@@ -121,8 +125,9 @@ returns-3 c =
     let F = c .before .before in
     let Q = F .before .before .before .before in
     let v = Q .before .before .before .before in
-    let z = v .before .before .before .before .before .before in
-    let k = z .before .before in
+    let m = v .before .before .before in
+    let z = m .before .before .before .before in
+    let k = worked m in
     let l = lent (k .before .before) in
     let r = k .work-out .result in
     let v-left : v .renew .last .0 ≡ renewed (l .N) (firsts (l .N) (r .v)) (l .v) = v .renew .ensures in
@@ -147,8 +152,8 @@ make-spec =
     same-length-5
     same-length-6
     returns-2
+    sub-faces
     renew-requires
-    sub-fill
     fill-requires
     fill-requires-2
     accepted-requires

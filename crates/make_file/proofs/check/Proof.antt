@@ -19,7 +19,7 @@ returns c =
     let k = c .before in
     let m = k .before in
     let a = m .before .args in
-    let both = tested-is (a .n) (a .x) (a .t) (a .wanted) (a .h .now) (a .e .now) (a .u .now) (a .room) (m .check-made .result) (k .check-buffer .result) (m .check-made .ensures) (k .check-buffer .ensures) in
+    let both = tested-is (a .c .n) (a .c .x) (a .c .t) (a .c .wanted) (a .h .now) (a .e .now) (a .u .now) (a .room) (m .check-made .result) (k .check-buffer .result) (m .check-made .ensures) (k .check-buffer .ensures) in
     omega (arith, both, c .first .ensures)
 
 pub check-spec : {M : Type 1} → statement M

@@ -1,14 +1,15 @@
 -- `make_file::make_in` meets its contract: what make leaves in the rows is what is written. Assumes nothing.
 use mathlib.Core.List.{List}
 use Prim.Native.Nat.{ℕ}
-use Rattle.rule.specs.Channel.{Channel, channel}
+use Rattle.rule.specs.Channel.{Channel}
+use Rattle.rule.specs.Counted.{counted, after}
 use Rattle.make_file.specs.Left.{made-refused, made-writable, made-filed}
 use borrow.Author.Needs.{needs}
 use Rattle.make_file.proofs.make_in.Statement.{statement}
 use Rattle.make_file.proofs.make_in.Tie as tie
 
 abbrev start : tie.After-make → tie.Start
-start c = c .before .before .before .before .before .before
+start c = c .before .before .before .before .before
 
 -- the buffer, and the channel that make is lent
 abbrev buffer : tie.After-make → List ℕ
@@ -17,14 +18,14 @@ buffer c = start c .args .file .now
 abbrev lent : tie.After-make → Channel
 lent c =
     let a = start c .args in
-    channel (a .n) (a .x) (a .t) 0 (a .wanted) (a .h .now) (a .e .now) (a .u .now) (a .v .now) (a .q .now) (a .f .now)
+    counted (a .c) (a .h .now) (a .e .now) (a .u .now) (a .v .now) (a .q .now) (a .f .now)
 
 -- the channel that it leaves
 abbrev left : tie.After-make → Channel
 left c =
     let a = start c .args in
     let l = c .make .last in
-    channel (a .n) (a .x) (a .t) (l .1 .1 .1 .0) (a .wanted) (a .h .now) (a .e .now) (a .u .now) (l .1 .1 .1 .1 .1 .1 .1 .1 .0) (l .1 .1 .1 .1 .1 .1 .1 .1 .1 .0) (l .1 .1 .1 .1 .1 .1 .1 .1 .1 .1 .0)
+    counted (after (a .c) (c .make .result .accepted)) (a .h .now) (a .e .now) (a .u .now) (l .1 .1 .1 .1 .0) (l .1 .1 .1 .1 .1 .0) (l .1 .1 .1 .1 .1 .1 .0)
 
 make-requires : tie.Need-make-requires
 make-requires c κs = search needs
@@ -40,14 +41,14 @@ same-length-3 c = search needs
 
 returns : tie.Need-returns
 returns c =
-    let k = c .before .before .before .before .before in
-    made-refused (lent k) (left k) (k .make .result) (buffer k) (k .make .ensures) (start k .pre .1) (c .if1 .taken)
+    let k = c .before .before .before .before .before .before in
+    made-refused (lent k) (left k) (k .make .result .answer) (buffer k) (k .make .ensures) (start k .pre .1) (c .if1 .taken)
 
 put-requires : tie.Need-put-requires
 put-requires c κs =
     let o = c .before .before .before .before in
-    let k = o .before .before .before .before .before in
-    (start k .pre .0, made-writable (lent k) (left k) (k .make .result) (buffer k) (k .make .ensures) (start k .pre .1) (o .if1 .left))
+    let k = o .before .before .before .before .before .before in
+    (start k .pre .0, made-writable (lent k) (left k) (k .make .result .answer) (buffer k) (k .make .ensures) (start k .pre .1) (o .if1 .left))
 
 same-length-4 : tie.Need-same-length-4
 same-length-4 c = search needs
@@ -65,8 +66,8 @@ returns-2 : tie.Need-returns-2
 returns-2 c =
     let p = c .before .before in
     let o = p .before .before .before .before .before in
-    let k = o .before .before .before .before .before in
-    made-filed (lent k) (left k) (k .make .result) (buffer k) (k .make .ensures) (start k .pre .1) (p .put .last .0) (o .if1 .left) (p .put .ensures)
+    let k = o .before .before .before .before .before .before in
+    made-filed (lent k) (left k) (k .make .result .answer) (buffer k) (k .make .ensures) (start k .pre .1) (p .put .last .0) (o .if1 .left) (p .put .ensures)
 
 pub make-in-spec : {M : Type 1} → statement M
 make-in-spec =

@@ -10,7 +10,7 @@ use Rattle.rule.specs.Ranges.{cellsAllowed, mostPoured}
 use Rattle.rule.specs.Channel.{Channel, channel, rows, lengths}
 use Rattle.rule.specs.Refusals.{Outcome, refused, done, numberOf}
 use Rattle.rule.specs.Checks.{small, long, shaped, checked, wet}
-use Rattle.rule.specs.File.{fileOf, lengthOf}
+use Rattle.rule.specs.File.{fileOf, channelOf}
 use Rattle.rule.specs.Step.{Stepped, step}
 use Rattle.rule.specs.Run.{runOn}
 use Rattle.rule.specs.Calls.{Called, stepCall, filterCall, runForCall}
@@ -26,10 +26,9 @@ use Rattle.run.specs.Runs.{nothing, fewerOf, ranOf, run-goes}
 use Rattle.writer.specs.Asked.{Writable, writable-of}
 use Rattle.writer.specs.Left.{leavesBytes}
 
--- room for the file of a channel that passes the checks
-pub record Room (file : List ℕ) (c : Channel) : Type 0 where
-  pub sized : length file ≡ lengthOf (c .N)
-  pub passed : numberOf (checked c []) ≡ 0
+-- a file whose channel passes the checks
+abbrev pub Passing : List ℕ → Type 0
+Passing s = numberOf (checked (channelOf s) []) ≡ 0
 
 -- what is left, as a file
 unfoldable pub filed : Called Channel → Called (List ℕ)
@@ -73,11 +72,10 @@ run-left most c z =
     subst (λ (k : Called Channel). numberOf (checked (k .left) []) ≡ 0) (run-goes most c (done-of (checked c []) z)) (steps-left (fewerOf most (c .wanted - c .accepted)) 0 c z)
 
 -- so that it is written, and the file is that of what is left
-module _ {r : Answer} {k : Called Channel} {n X T accepted wanted : ℕ} {h e u v q f : Row} (p : leaves r (channel n X T accepted wanted h e u v q f) ≡ k) where
-  pub put-asks : numberOf (checked (k .left) []) ≡ 0 → Writable n h e u v q f
-  put-asks z =
-      writable-of (channel n X T accepted wanted h e u v q f) [] (ap (λ (x : Called Channel). numberOf (checked (x .left) [])) p ∙ z)
+module _ {a : Answer} {c : Channel} {k : Called Channel} (p : leaves a c ≡ k) where
+  pub put-asks : numberOf (checked (k .left) []) ≡ 0 → Writable (c .N) (c .h) (c .e) (c .u) (c .v) (c .Q) (c .F)
+  put-asks z = writable-of c [] (ap (λ (x : Called Channel). numberOf (checked (x .left) [])) p ∙ z)
 
-  pub put-leaves : {d : List ℕ} → d ≡ fileOf (channel n X T accepted wanted h e u v q f) → leavesBytes r d ≡ filed k
+  pub put-leaves : {d : List ℕ} → d ≡ fileOf c → leavesBytes a d ≡ filed k
   unfolding filed
-  put-leaves w = ap (leavesBytes r) w ∙ ap filed p
+  put-leaves w = ap (leavesBytes a) w ∙ ap filed p
