@@ -14,7 +14,8 @@ use Rattle.rule.specs.Channel.{Channel}
 use Rattle.rule.specs.Refusals.{Outcome, refused, done, number, numberOf, _>>=_, require, shape, bufferLength}
 use Rattle.rule.specs.Checks.{wet}
 use Rattle.rule.specs.Make.{makeChecked, make}
-use Rattle.rule.specs.File.{fileOf, lengthOf}
+use Rattle.rule.specs.Layout.{lengthOf}
+use Rattle.rule.specs.File.{edition, fileOf}
 use Rattle.rule.specs.Calls.{Called, called, rowIn, holds, makeFile}
 use Rattle.checks.specs.Numbers.{number-not-0, done-of, Outside, outside-last, refused-of, passed-last}
 use Rattle.checks.specs.Facts.{valuesAllowed}
@@ -30,7 +31,7 @@ firstOf one other = cond (eqb one 0) other one
 
 -- 15: a buffer of `room` bytes, for n cells
 unfoldable pub bufferChecked : ℕ → ℕ → Outcome (Unit {0})
-bufferChecked n room = require (eqb room (lengthOf n)) bufferLength
+bufferChecked n room = require (eqb room (lengthOf edition n)) bufferLength
 
 -- 1 to 5, then 15
 unfoldable pub tested : ℕ → ℕ → ℕ → ℕ → Row → Row → Row → ℕ → Outcome (Unit {0})
@@ -50,13 +51,13 @@ unfolding _>>=_ numberOf firstOf
 first-is (refused r k) f one other p q = rw (ne-eqb one 0 (λ z. number-not-0 r (sym p ∙ z))) p
 first-is (done a) f one other p q = rw p q
 
-pub buffer-15 : (n room : ℕ) → (room ≡ lengthOf n → ⊥) → 15 ≡ numberOf (bufferChecked n room)
+pub buffer-15 : (n room : ℕ) → (room ≡ lengthOf edition n → ⊥) → 15 ≡ numberOf (bufferChecked n room)
 unfolding bufferChecked require numberOf number
-buffer-15 n room z = rw (ne-eqb room (lengthOf n) z)
+buffer-15 n room z = rw (ne-eqb room (lengthOf edition n) z)
 
-pub buffer-0 : (n room : ℕ) → room ≡ lengthOf n → 0 ≡ numberOf (bufferChecked n room)
+pub buffer-0 : (n room : ℕ) → room ≡ lengthOf edition n → 0 ≡ numberOf (bufferChecked n room)
 unfolding bufferChecked require numberOf
-buffer-0 n room z = rw (eq-eqb room (lengthOf n) z)
+buffer-0 n room z = rw (eq-eqb room (lengthOf edition n) z)
 
 regroup : {A B C : Type 0} (m : Outcome A) (f : A → Outcome B) (g : B → Outcome C) → (m >>= λ a. f a >>= g) ≡ ((m >>= f) >>= g)
 unfolding _>>=_
@@ -79,14 +80,14 @@ module _ (n X T wanted : ℕ) (h e u : Row) where
   tested-outside room =
       outside-then (makeChecked n X T wanted h e u) _
       (subst Outside (sym (makeChecked-is n X T wanted h e u)) (order-outside (shapePasses n h e u) (countsAllowed X T wanted 0) (valuesAllowed h e u) (wet n X h e) (wet-outside n X h e)))
-      (λ _. outside-last (eqb room (lengthOf n)) bufferLength)
+      (λ _. outside-last (eqb room (lengthOf edition n)) bufferLength)
 
   -- what the tests let pass
-  pub passed-both : (room : ℕ) → numberOf (tested n X T wanted h e u room) ≡ 0 → Makeable n X T wanted h e u × (room ≡ lengthOf n)
+  pub passed-both : (room : ℕ) → numberOf (tested n X T wanted h e u room) ≡ 0 → Makeable n X T wanted h e u × (room ≡ lengthOf edition n)
   unfolding tested bufferChecked
   passed-both room z =
       let p = first-done (makeChecked n X T wanted h e u) (λ _. bufferChecked n room) z in
-      (makeable-of n X T wanted h e u (p .0), eqb-true room (lengthOf n) (passed-last (eqb room (lengthOf n)) bufferLength (p .1)))
+      (makeable-of n X T wanted h e u (p .0), eqb-true room (lengthOf edition n) (passed-last (eqb room (lengthOf edition n)) bufferLength (p .1)))
 
   module _ (s : List ℕ) where
     -- a test refuses
