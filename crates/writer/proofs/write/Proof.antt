@@ -49,7 +49,7 @@ returns-2 : tie.Need-returns-2
 returns-2 c =
     let k = c .before .before .before in
     let d = k .before .before .before .args .d .now in
-    write-unfit (given (k .before)) d (c .refused2 .result) (passed k) (c .refused2 .ensures) (λ e. c .before .if2 .taken (omega arith))
+    write-unfit (given (k .before)) d (c .refused2 .result) (passed k) (c .refused2 .ensures) (λ e. omega (arith, e, c .before .if2 .taken))
 
 put-requires : tie.Need-put-requires
 put-requires c κs = let k = c .before .before .before in (omega arith, writable-of (given (k .before)) [] (passed k))
