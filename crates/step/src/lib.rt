@@ -128,6 +128,7 @@ pub fn step(
 ) -> rule::Left
     ensures { λ r. ⌜ left c r (now (h .entry)) (now (e .exit)) (now (u .exit)) (now (v .exit)) (now (q .exit)) (now (f .exit)) ≡ stepCall (counted c (now (h .entry)) (now (e .entry)) (now (u .entry)) (now (v .entry)) (now (q .entry)) (now (f .entry))) (now (s .entry)) ⌝ }
 {
+    let count = c.accepted;
     let r = attempt(c, h, e, u, v, q, f, s);
     let answer = rule::Answer {
         number: r.number,
@@ -138,7 +139,7 @@ pub fn step(
     if refusal != 0 {
         return rule::Left {
             answer,
-            accepted: c.accepted,
+            accepted: count,
         };
     }
     let trial = r.trial;
@@ -149,6 +150,6 @@ pub fn step(
     let accelerations = trial.f;
     store::keep_cells(c.n, e, u, v, &heights, &velocities, &reduced);
     store::push_levels(c.n, q, f, &fluxes, &accelerations);
-    let accepted = c.accepted + 1;
+    let accepted = count + 1;
     rule::Left { answer, accepted }
 }

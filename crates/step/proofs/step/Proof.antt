@@ -44,8 +44,8 @@ returns c = step-refused (attempted (c .before)) (c .if1 .taken)
 abbrev accepted : tie.After-keep-cells → tie.Else1
 accepted c = c .before .before .before .before .before .before .before .before .before .before .before .before .before
 
-abbrev stored : tie.After-struct-known → tie.After-keep-cells
-stored c = c .before .before .before .before .before .before .before .before .before .before .before
+abbrev stored : tie.After-f → tie.After-keep-cells
+stored c = c .before .before .before .before .before .before .before .before .before .before
 
 keep-cells-requires : tie.Need-keep-cells-requires
 keep-cells-requires c κs = let z = c .before .before .before .before .before .before .before .before .before .before .before .before in cells-ask (attempted (z .before)) (z .if1 .left)
@@ -54,7 +54,7 @@ push-levels-requires : tie.Need-push-levels-requires
 push-levels-requires c κs = let z = accepted (c .before .before .before .before .before .before .before) in levels-ask (attempted (z .before)) (z .if1 .left)
 
 add-accepted : tie.Need-add-accepted
-add-accepted c = let z = accepted (c .before .before .before .before .before .before .before .before .before .before .before) in count-fits (attempted (z .before)) (z .if1 .left)
+add-accepted c = let z = accepted (stored c) in count-fits (attempted (z .before)) (z .if1 .left)
 
 same-length-6 : tie.Need-same-length-6
 same-length-6 c = search needs
@@ -75,8 +75,8 @@ returns-2 : tie.Need-returns-2
 returns-2 c =
     let z = accepted (stored c) in
     let cells = stored c .keep-cells .ensures in
-    let levels = c .before .before .before .push-levels .ensures in
-    step-accepted (attempted (z .before)) (z .if1 .left) _ _ _ _ _ _ (add-one (c .before .before .before .before .before .before .before .before .before .before .before .before .before .before .before .before .before .before .before .before .before .before .before .before .before .before .before .before .before .before .before .args .c .accepted)) (cells .0) (cells .1) (cells .2) (levels .0) (levels .1)
+    let levels = c .before .before .push-levels .ensures in
+    step-accepted (attempted (z .before)) (z .if1 .left) _ _ _ _ _ _ (add-one (z .before .before .before .before .before .before .before .args .c .accepted)) (cells .0) (cells .1) (cells .2) (levels .0) (levels .1)
 
 pub step-spec : {M : Type 1} → statement M
 step-spec =
