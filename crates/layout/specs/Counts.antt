@@ -25,7 +25,8 @@ length-head (n ∷ ns) =
 pub head-append : (ms ns : List ℕ) → headBytes (ms ++ ns) ≡ headBytes ms ++ headBytes ns
 unfolding headBytes
 head-append [] ns = refl
-head-append (m ∷ ms) ns = ap (λ t. bytes 4 m ++ t) (head-append ms ns) ∙ sym (append-assoc (bytes 4 m) (headBytes ms) (headBytes ns))
+head-append (m ∷ ms) ns =
+    ap (λ t. bytes 4 m ++ t) (head-append ms ns) ∙ sym (append-assoc (bytes 4 m) (headBytes ms) (headBytes ns))
 
 -- the first counts, with one more
 firsts-more : (ns : List ℕ) (i : ℕ) → i < length ns → take (i + 1) ns ≡ take i ns ++ (getD ns i 0 ∷ [])
@@ -40,7 +41,10 @@ and-true true = refl
 and-true false = refl
 
 -- the counts of s from `at` on are the first ones of ns, with one more
-same-more : (ns s : List ℕ) (at i : ℕ) → i < length ns → same (countsAt i s at) (take i ns) && eqb (countAt 4 s (at + 4 * i)) (getD ns i 0) ≡ same (countsAt (suc i) s at) (take (suc i) ns)
+same-more :
+    (ns s : List ℕ) (at i : ℕ) → i < length ns →
+    same (countsAt i s at) (take i ns) && eqb (countAt 4 s (at + 4 * i)) (getD ns i 0)
+    ≡ same (countsAt (suc i) s at) (take (suc i) ns)
 unfolding same countsAt
 same-more [] s at i h = absurd (omega arith)
 same-more (n ∷ ns) s at zero h =
@@ -58,13 +62,17 @@ unfolding same countsAt
 same-none s ns at = refl
 
 pub same-firsts :
-    (ns s : List ℕ) (at i x y : ℕ) {fine : Bool} → fine ≡ same (countsAt i s at) (take i ns) → i < length ns → x ≡ countAt 4 s (at + 4 * i) → y ≡ getD ns i 0 →
+    (ns s : List ℕ) (at i x y : ℕ) {fine : Bool} → fine ≡ same (countsAt i s at) (take i ns) → i < length ns →
+    x ≡ countAt 4 s (at + 4 * i) → y ≡ getD ns i 0 →
     fine && eqb x y ≡ same (countsAt (i + 1) s at) (take (i + 1) ns)
-same-firsts ns s at i x y p h q r = (λ j. p j && eqb (q j) (r j)) ∙ same-more ns s at i h ∙ sym (ap (λ k. same (countsAt k s at) (take k ns)) (add-one i))
+same-firsts ns s at i x y p h q r =
+    (λ j. p j && eqb (q j) (r j)) ∙ same-more ns s at i h
+    ∙ sym (ap (λ k. same (countsAt k s at) (take k ns)) (add-one i))
 
 -- the first counts of ns are written from `at` on
 pub written-firsts :
-    (ns d e f : List ℕ) (at i x next : ℕ) → e ≡ written d at (headBytes (take i ns)) → at ≤ length d → i < length ns → next ≡ at + 4 * i → x ≡ getD ns i 0 → f ≡ written e next (bytes 4 x) →
+    (ns d e f : List ℕ) (at i x next : ℕ) → e ≡ written d at (headBytes (take i ns)) → at ≤ length d →
+    i < length ns → next ≡ at + 4 * i → x ≡ getD ns i 0 → f ≡ written e next (bytes 4 x) →
     f ≡ written d at (headBytes (take (i + 1) ns))
 unfolding headBytes
 written-firsts ns d e f at i x next p h l g z q =

@@ -12,7 +12,9 @@ use Rattle.little.specs.Entries.{length-rowAt}
 use Rattle.layout.specs.Places.{stands}
 
 -- row i, with m entries of k bytes from `at` on, in a file of n cells
-module _ (edition n i : ℕ) {at k m : ℕ} (start : at ≡ startOf edition n i) (width : k ≡ getD (widths edition) i 0) (long : m ≡ getD (lengths n) i 0) where
+module _
+    (edition n i : ℕ) {at k m : ℕ} (start : at ≡ startOf edition n i) (width : k ≡ getD (widths edition) i 0)
+    (long : m ≡ getD (lengths n) i 0) where
   pub row-stands : {total : ℕ} → total ≡ lengthOf edition n → i < length (widths edition) → at + k * m ≤ total
   row-stands e h = subst (λ t. t) (sym (λ j. start j + width j * long j ≤ e j)) (stands edition n i h)
 

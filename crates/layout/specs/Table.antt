@@ -41,4 +41,5 @@ rows-none edition e = rw (ne-eqb edition 1 e)
 -- each row has its offset
 pub length-offsets : (edition n : ℕ) → length (offsets edition n) ≡ length (widths edition)
 unfolding offsets headLength starts lengths
-length-offsets edition n = of-each (λ c ws. length (starts (4 * (c + length ws)) ws (lengths n)) ≡ length ws) refl refl edition
+length-offsets edition n =
+    of-each (λ c ws. length (starts (4 * (c + length ws)) ws (lengths n)) ≡ length ws) refl refl edition

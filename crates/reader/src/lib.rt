@@ -4,7 +4,6 @@ ghost use mathlib.Core.Bool.{true, _&&_};
 ghost use mathlib.Core.List.{[]};
 ghost use Prim.Native.Nat.{_+_, _-_, _*_, _≤_};
 ghost use lib.ListN.{length, take};
-ghost use Rattle.rule.specs.Rows.{same};
 ghost use Rattle.rule.specs.Ranges.{cellsAllowed};
 ghost use Rattle.rule.specs.Counted.{counted, countsOf};
 ghost use Rattle.rule.specs.Refusals.{numberOf};

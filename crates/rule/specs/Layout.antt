@@ -45,7 +45,9 @@ unfoldable pub lengthOf : ℕ → ℕ → ℕ
 lengthOf edition n = headLength edition + span (widths edition) (lengths n)
 
 -- edition 1 in numbers
-pub first-offsets : (n : ℕ) → 1 ≤ n → offsets 1 n ≡ 48 ∷ (48 + 4 * n) ∷ (48 + 8 * n) ∷ (48 + 12 * n) ∷ (48 + 16 * n) ∷ (24 + 40 * n) ∷ []
+pub first-offsets :
+    (n : ℕ) → 1 ≤ n →
+    offsets 1 n ≡ 48 ∷ (48 + 4 * n) ∷ (48 + 8 * n) ∷ (48 + 12 * n) ∷ (48 + 16 * n) ∷ (24 + 40 * n) ∷ []
 unfolding offsets starts headLength countsIn widths lengths
 first-offsets n h =
     let a : 48 + 4 * n + 4 * n ≡ 48 + 8 * n = omega arith in

@@ -19,7 +19,8 @@ returns : tie.Need-returns
 returns c =
     let a = c .before .before .args in
     c .place .ensures
-    ∙ ap (λ k. headLength (a .edition) + span (take k (widths (a .edition))) (lengths (a .n))) (c .before .rows-in .ensures .0)
+    ∙ ap (λ k. headLength (a .edition) + span (take k (widths (a .edition))) (lengths (a .n)))
+    (c .before .rows-in .ensures .0)
     ∙ sym (length-is (a .edition) (a .n))
 
 pub length-of-spec : {M : Type 1} → statement M

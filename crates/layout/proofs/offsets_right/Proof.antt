@@ -14,7 +14,8 @@ use Rattle.layout.proofs.offsets_right.Statement.{statement}
 use Rattle.layout.proofs.offsets_right.Tie as tie
 
 abbrev Inv-loop : tie.InvT-loop
-Inv-loop s edition n rows first fine₀ i₀ fine i = (i ≤ rows) × (fine ≡ same (countsAt i s first) (take i (offsets edition n)))
+Inv-loop s edition n rows first fine₀ i₀ fine i =
+    (i ≤ rows) × (fine ≡ same (countsAt i s first) (take i (offsets edition n)))
 
 abbrev μ-loop : tie.MeasureT-loop
 μ-loop s edition n rows first fine₀ i₀ fine i = rows - i
@@ -29,7 +30,9 @@ mul-first : tie.Need-mul-first Inv-loop μ-loop
 mul-first c = search needs
 
 loop-holds : tie.Need-loop-holds Inv-loop μ-loop
-loop-holds c = let a = c .before .before .before .args in (omega arith, same-none (a .s .now) (offsets (a .edition) (a .n)) _)
+loop-holds c =
+    let a = c .before .before .before .args in
+    (omega arith, same-none (a .s .now) (offsets (a .edition) (a .n)) _)
 
 mul-count-at : tie.Need-mul-count-at Inv-loop μ-loop
 mul-count-at c = search needs
@@ -56,8 +59,11 @@ loop-again c =
     let l = c .before .before .before .loop in
     let r = c .before .before .before .before .before .rows-in .ensures in
     let a = c .before .before .before .before .before .before .before .args in
-    let more : l .i < length (offsets (a .edition) (a .n)) = omega (arith, c .before .before .loop-test .taken, r, length-offsets (a .edition) (a .n)) in
-    (omega arith, same-firsts (offsets (a .edition) (a .n)) (a .s .now) _ (l .i) _ _ (l .inv .1) more (c .before .count-at .ensures .0) (c .start-of .ensures))
+    let os = offsets (a .edition) (a .n) in
+    let long = length-offsets (a .edition) (a .n) in
+    let more : l .i < length os = omega (arith, c .before .before .loop-test .taken, r, long) in
+    let k = c .before .count-at .ensures .0 in
+    (omega arith, same-firsts os (a .s .now) _ (l .i) _ _ (l .inv .1) more k (c .start-of .ensures))
 
 returns : tie.Need-returns Inv-loop μ-loop
 unfolding offsetsIn
@@ -66,10 +72,12 @@ returns c =
     let r = c .before .before .before .rows-in .ensures .0 in
     let k = c .before .before .counts-in .ensures .0 in
     let a = c .before .before .before .before .before .args in
+    let os = offsets (a .edition) (a .n) in
+    let long = length-offsets (a .edition) (a .n) in
     let all : l .i ≡ length (widths (a .edition)) = omega (arith, l .inv, c .loop-test .left, r) in
     l .inv .1
-    ∙ (λ j. same (countsAt (all j) (a .s .now) (4 * k j)) (take (l .i) (offsets (a .edition) (a .n))))
-    ∙ ap (same (offsetsIn (a .edition) (a .s .now))) (take-all (l .i) (offsets (a .edition) (a .n)) (omega (arith, all, length-offsets (a .edition) (a .n))))
+    ∙ (λ j. same (countsAt (all j) (a .s .now) (4 * k j)) (take (l .i) os))
+    ∙ ap (same (offsetsIn (a .edition) (a .s .now))) (take-all (l .i) os (omega (arith, all, long)))
 
 pub offsets-right-spec : {M : Type 1} → statement M
 offsets-right-spec =

@@ -78,7 +78,8 @@ returns-3 c =
     let s = c .before .before .before in
     let r = c .before .rows-in .ensures in
     let k = c .before .before .counts-in .ensures in
-    let b = before-cells (s .args .edition) (s .args .n) (s .pre .1 .0) (s .args .i) (c .match .rest .0 .1) (c .match .rest .1) (s .pre .0) in
+    let not = c .match .rest in
+    let b = before-cells (s .args .edition) (s .args .n) (s .pre .1 .0) (s .args .i) (not .0 .1) (not .1) (s .pre .0) in
     omega (arith, r, k, b, s .pre)
 
 pub place-spec : {M : Type 1} → statement M

@@ -14,7 +14,8 @@ use Rattle.layout.proofs.put_offsets.Statement.{statement}
 use Rattle.layout.proofs.put_offsets.Tie as tie
 
 abbrev Inv-loop : tie.InvT-loop
-Inv-loop d₀ edition n rows first i₀ d i = (i ≤ rows) × (length d ≡ length d₀) × (d ≡ written d₀ first (headBytes (take i (offsets edition n))))
+Inv-loop d₀ edition n rows first i₀ d i =
+    (i ≤ rows) × (length d ≡ length d₀) × (d ≡ written d₀ first (headBytes (take i (offsets edition n))))
 
 abbrev μ-loop : tie.MeasureT-loop
 μ-loop d₀ edition n rows first i₀ d i = rows - i
@@ -59,10 +60,13 @@ loop-again c =
     let r = c .before .before .before .before .before .before .before .before .rows-in .ensures in
     let s = c .before .before .before .before .before .before .before .before .before .before in
     let a = s .args in
-    let more : l .i < length (offsets (a .edition) (a .n)) = omega (arith, c .before .before .before .before .before .loop-test .taken, r, length-offsets (a .edition) (a .n)) in (
+    let os = offsets (a .edition) (a .n) in
+    let long = length-offsets (a .edition) (a .n) in
+    let more : l .i < length os = omega (arith, c .before .before .before .before .before .loop-test .taken, r, long) in
+    let w = c .before .before .put-count .ensures in (
       omega arith,
       omega arith,
-      written-firsts (offsets (a .edition) (a .n)) (a .d .now) (l .d) _ _ (l .i) _ _ (l .inv .2) (omega (arith, k, s .pre)) more refl (c .before .before .before .start-of .ensures) (c .before .before .put-count .ensures),
+      written-firsts os (a .d .now) (l .d) _ _ (l .i) _ _ (l .inv .2) (omega (arith, k, s .pre)) more refl (c .before .before .before .start-of .ensures) w,
     )
 
 same-length : tie.Need-same-length Inv-loop μ-loop
@@ -74,7 +78,9 @@ returns c =
     let r = c .before .before .before .rows-in .ensures .0 in
     let k = c .before .before .counts-in .ensures .0 in
     let a = c .before .before .before .before .before .args in
-    let all = take-all (l .i) (offsets (a .edition) (a .n)) (omega (arith, l .inv .0, c .loop-test .left, r, length-offsets (a .edition) (a .n))) in
+    let os = offsets (a .edition) (a .n) in
+    let long = length-offsets (a .edition) (a .n) in
+    let all = take-all (l .i) os (omega (arith, l .inv .0, c .loop-test .left, r, long)) in
     l .inv .2 ∙ (λ j. written (a .d .now) (4 * k j) (headBytes (all j)))
 
 pub put-offsets-spec : {M : Type 1} → statement M

@@ -9,7 +9,9 @@ place-requires : tie.Need-place-requires
 place-requires c κs = search needs
 
 returns : tie.Need-returns
-returns c = let s = c .before in c .place .ensures ∙ sym (start-is (s .args .edition) (s .args .n) (s .args .i) (s .pre .0))
+returns c =
+    let s = c .before in
+    c .place .ensures ∙ sym (start-is (s .args .edition) (s .args .n) (s .args .i) (s .pre .0))
 
 pub start-of-spec : {M : Type 1} → statement M
 start-of-spec = tie.close (tie.spec place-requires returns)
