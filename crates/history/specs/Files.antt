@@ -14,7 +14,8 @@ use Rattle.rule.specs.Channel.{Channel}
 use Rattle.rule.specs.Refusals.{Refusal, Outcome, refused, done, numberOf, number, shape, counts, bufferLength}
 use Rattle.rule.specs.Checks.{checked}
 use Rattle.rule.specs.Make.{makeChecked}
-use Rattle.rule.specs.File.{countOf, channelOf, fileOf, lengthOf, readWith}
+use Rattle.rule.specs.Layout.{lengthOf}
+use Rattle.rule.specs.File.{edition, countOf, channelOf, fileOf, readWith}
 use Rattle.rule.specs.Calls.{Called, called, read, checkFile, makeFile, rowIn, holds, onFile, stepCall, filterCall, runForCall, stepFile, filterFile, runForFile}
 use Rattle.answers.specs.Stages.{refusal}
 use Rattle.little.specs.Numbers.{AreBytes}
@@ -149,7 +150,7 @@ make-file-taken n X T wanted h e u buffer =
     (λ c m.
     let a₁ = came-by (holds h n && holds e n && holds u n) shape _ c m in
     let a₂ = came (makeChecked n X T wanted (rowIn h) (rowIn e) (rowIn u)) _ c (a₁ .1) in
-    let a₃ = came-by (eqb (length buffer) (lengthOf n)) bufferLength _ c (a₂ .rest) in
+    let a₃ = came-by (eqb (length buffer) (lengthOf edition n)) bufferLength _ c (a₂ .rest) in
     make-passes n X T wanted (rowIn h) (rowIn e) (rowIn u) c (a₃ .1))
 
 of-checked : (s : List ℕ) (m : Outcome Channel) → called s (λ _. 0) (λ _. s) m .answer .number ≡ 0 → numberOf m ≡ 0

@@ -1,7 +1,7 @@
 -- The channel file: what is printed of a file, by the reader's number. Assumes nothing.
-use Prim.Native.Nat.{ℕ, _+_, _*_, _^_, _≤_, _<_}
+use Prim.Native.Nat.{ℕ, _^_, _≤_, _<_}
 use native.Mathlib.Omega.{arith}
-use mathlib.Core.Path.{_≡_, sym, ap, subst, _∙_}
+use mathlib.Core.Path.{_≡_, refl, sym, ap, subst, _∙_}
 use mathlib.Core.Bool.{true, false}
 use mathlib.Core.List.{List, []}
 use lib.ListN.{length, take}
@@ -9,7 +9,8 @@ use Rattle.whole.specs.Row.{padded, Within}
 use Rattle.rule.specs.Rows.{Row}
 use Rattle.rule.specs.Refusals.{Outcome, refused, done, numberOf}
 use Rattle.rule.specs.Bytes.{countAt, rowAt}
-use Rattle.rule.specs.File.{lengthOf, offsets, countOf, rowOf, channelOf, readWith}
+use Rattle.rule.specs.Layout.{widths, startOf, lengthOf}
+use Rattle.rule.specs.File.{edition, leastLength, countOf, channelOf, readWith}
 use Rattle.rule.specs.Channel.{lengths}
 use Rattle.rule.specs.Line.{line, channelLine}
 use Rattle.rule.specs.Calls.{read, printFile}
@@ -20,6 +21,7 @@ use Rattle.text.specs.Lines.{lineOf, refusedOf, Printable, channel-line, refuse
 use Rattle.reader.specs.Opened.{Opened, opened-of, read-refused, plain-read}
 use Rattle.reader.specs.Reader.{fitsIn}
 use Rattle.reader.specs.Held.{four-cut}
+use Rattle.reader.specs.Left.{held-row}
 
 -- every number is at most 15
 outcome-most : {A : Type 0} (m : Outcome A) → numberOf m ≤ 15
@@ -53,7 +55,7 @@ module _ (s : List ℕ) (z : numberOf (read s) ≡ 0) where
   unfolding printFile read line
   held-is = ap line (sym (opened .is))
 
-  pub head-long : 48 ≤ length s
+  pub head-long : leastLength ≤ length s
   head-long = opened .head
 
   module _ (n : ℕ) (e : n ≡ countAt 4 s 4) where
@@ -61,18 +63,17 @@ module _ (s : List ℕ) (z : numberOf (read s) ≡ 0) where
     unfolding countOf
     cells-is = sym e
 
-    pub cells-most : n ≤ 256
-    cells-most = subst (λ k. k ≤ 256) cells-is (opened .most)
+    pub cells-some : (1 ≤ n) × (n ≤ 256)
+    cells-some = let o = opened in (omega (arith, o .least, cells-is), omega (arith, o .most, cells-is))
 
-    pub file-long : length s ≡ 24 + 64 * n
-    unfolding lengthOf
-    file-long = subst (λ k. length s ≡ lengthOf k) cells-is (opened .sized)
+    pub file-long : length s ≡ lengthOf edition n
+    file-long = subst (λ k. length s ≡ lengthOf edition k) cells-is (opened .sized)
 
     -- its heights, read into an array
-    module _ (array : Row) (f : array ≡ padded n (rowAt 4 s (48 + 4 * n) n)) where
+    module _ (array : Row) (at : ℕ) (start : at ≡ startOf edition n 1) (f : array ≡ padded n (rowAt 4 s at n)) where
       heights-are : take n array ≡ channelOf s .e
-      unfolding channelOf rowOf offsets lengths
-      heights-are = four-cut s (48 + 4 * n) n f ∙ ap (λ k. rowAt 4 s (48 + 4 * k) k) (sym cells-is)
+      unfolding channelOf widths lengths
+      heights-are = four-cut s at n f ∙ held-row s n 1 start refl refl (sym cells-is)
 
       module _ (accepted wanted : ℕ) (p : accepted ≡ countAt 4 s 16) (q : wanted ≡ countAt 4 s 20) where
         pub line-is : lineOf n accepted wanted (take n array) ≡ channelLine (channelOf s)
@@ -85,10 +86,10 @@ module _ (s : List ℕ) (z : numberOf (read s) ≡ 0) where
             let cells = allowed-of (channelOf s) [] (opened .checked-0) .cells in
             let long : length (take n array) ≡ n = ap length heights-are ∙ cells .e-long ∙ cells-is in
             record {
-              cells = cells-most;
+              cells = cells-some .1;
               accepted-held = h;
               wanted-held = l;
-              e-long = omega (arith, long, cells-most);
+              e-long = omega (arith, long, cells-some);
               e-small = subst (λ row. Within 20_000_000 (length row) row) (sym heights-are) (subst (λ k. Within 20_000_000 k (channelOf s .e)) (sym (cells .e-long)) (cells .e-small));
             }
 

@@ -13,7 +13,8 @@ use Rattle.rule.specs.Channel.{Channel, rows}
 use Rattle.rule.specs.Refusals.{Outcome, refused, done, number, _>>=_, require}
 use Rattle.rule.specs.Make.{make}
 use Rattle.rule.specs.Bytes.{rowAt}
-use Rattle.rule.specs.File.{fileOf, lengthOf}
+use Rattle.rule.specs.Layout.{lengthOf}
+use Rattle.rule.specs.File.{edition, fileOf}
 use Rattle.rule.specs.Calls.{Called, called, plainly, fit, makeCall, rowIn, holds}
 use Rattle.checks.specs.Tests.{both}
 use Rattle.checks.specs.Numbers.{number-not-0}
@@ -34,9 +35,9 @@ pub record Fitting (n : ℕ) (h e u : Row) (s : List ℕ) : Type 0 where
   pub h-long : length h ≡ n
   pub e-long : length e ≡ n
   pub u-long : length u ≡ n
-  pub sized : length s ≡ lengthOf n
+  pub sized : length s ≡ lengthOf edition n
 
-pub fitting-of : (n X T wanted : ℕ) (h e u : Row) (s : List ℕ) → Makeable n X T wanted h e u × (length s ≡ lengthOf n) → Fitting n h e u s
+pub fitting-of : (n X T wanted : ℕ) (h e u : Row) (s : List ℕ) → Makeable n X T wanted h e u × (length s ≡ lengthOf edition n) → Fitting n h e u s
 fitting-of n X T wanted h e u s p =
     let c = p .0 .cells in
     record { least = c .least; most = c .most; h-long = c .h-long; e-long = c .e-long; u-long = c .u-long; sized = p .1 }

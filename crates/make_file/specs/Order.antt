@@ -11,7 +11,8 @@ use Rattle.rule.specs.Ranges.{cellsAllowed}
 use Rattle.rule.specs.Channel.{Channel}
 use Rattle.rule.specs.Refusals.{Outcome, refused, done, number, numberOf, _>>=_, require, bufferLength}
 use Rattle.rule.specs.Make.{makeChecked, make}
-use Rattle.rule.specs.File.{fileOf, lengthOf}
+use Rattle.rule.specs.Layout.{lengthOf}
+use Rattle.rule.specs.File.{edition, fileOf}
 use Rattle.rule.specs.Calls.{Called, called, rowIn, holds, makeFile}
 use Rattle.checks.specs.Numbers.{number-not-0, done-of, regroup, both-done, Outside, outside-met, refuses-then, refuses-last, passed-last, Early}
 use Rattle.checks.specs.Met.{make-checked-met}
@@ -25,7 +26,7 @@ firstOf one other = cond (eqb one 0) other one
 
 -- 15: a buffer of `room` bytes, for n cells
 unfoldable pub bufferChecked : ℕ → ℕ → Outcome (Unit {0})
-bufferChecked n room = require (eqb room (lengthOf n)) bufferLength
+bufferChecked n room = require (eqb room (lengthOf edition n)) bufferLength
 
 -- 1 to 5, then 15
 unfoldable pub tested : ℕ → ℕ → ℕ → ℕ → Row → Row → Row → ℕ → Outcome (Unit {0})
@@ -45,13 +46,13 @@ unfolding _>>=_ numberOf firstOf
 first-is (refused r k) f one other p q = rw (ne-eqb one 0 (λ z. number-not-0 r (sym p ∙ z))) p
 first-is (done a) f one other p q = rw p q
 
-pub buffer-15 : (n room : ℕ) → (room ≡ lengthOf n → ⊥) → 15 ≡ numberOf (bufferChecked n room)
+pub buffer-15 : (n room : ℕ) → (room ≡ lengthOf edition n → ⊥) → 15 ≡ numberOf (bufferChecked n room)
 unfolding bufferChecked require numberOf number
-buffer-15 n room z = rw (ne-eqb room (lengthOf n) z)
+buffer-15 n room z = rw (ne-eqb room (lengthOf edition n) z)
 
-pub buffer-0 : (n room : ℕ) → room ≡ lengthOf n → 0 ≡ numberOf (bufferChecked n room)
+pub buffer-0 : (n room : ℕ) → room ≡ lengthOf edition n → 0 ≡ numberOf (bufferChecked n room)
 unfolding bufferChecked require numberOf
-buffer-0 n room z = rw (eq-eqb room (lengthOf n) z)
+buffer-0 n room z = rw (eq-eqb room (lengthOf edition n) z)
 
 module _ (n X T wanted : ℕ) (h e u : Row) where
   pub tested-is : (room one other : ℕ) → one ≡ numberOf (makeChecked n X T wanted h e u) → other ≡ numberOf (bufferChecked n room) → firstOf one other ≡ numberOf (tested n X T wanted h e u room)
@@ -63,14 +64,14 @@ module _ (n X T wanted : ℕ) (h e u : Row) where
   unfolding tested bufferChecked number
   tested-outside room =
       refuses-then Early (makeChecked n X T wanted h e u) _ (outside-met 1 5 (makeChecked n X T wanted h e u) (lit≤ tt) (make-checked-met n X T wanted h e u))
-      (λ _. refuses-last Early (eqb room (lengthOf n)) bufferLength refl)
+      (λ _. refuses-last Early (eqb room (lengthOf edition n)) bufferLength refl)
 
   -- what the tests let pass
-  pub passed-both : (room : ℕ) → numberOf (tested n X T wanted h e u room) ≡ 0 → Makeable n X T wanted h e u × (room ≡ lengthOf n)
+  pub passed-both : (room : ℕ) → numberOf (tested n X T wanted h e u room) ≡ 0 → Makeable n X T wanted h e u × (room ≡ lengthOf edition n)
   unfolding tested bufferChecked
   passed-both room z =
       let p = both-done (makeChecked n X T wanted h e u) (λ _. bufferChecked n room) z in
-      (makeable-of n X T wanted h e u (p .0), eqb-true room (lengthOf n) (passed-last (eqb room (lengthOf n)) bufferLength (p .1)))
+      (makeable-of n X T wanted h e u (p .0), eqb-true room (lengthOf edition n) (passed-last (eqb room (lengthOf edition n)) bufferLength (p .1)))
 
   module _ (s : List ℕ) where
     -- a test refuses

@@ -5,7 +5,8 @@ ghost use Prim.Native.Nat.{_≤_};
 ghost use lib.ListN.{length};
 ghost use Rattle.rule.specs.Ranges.{cellsAllowed, mostCells};
 ghost use Rattle.rule.specs.Refusals.{numberOf};
-ghost use Rattle.rule.specs.File.{lengthOf};
+ghost use Rattle.rule.specs.Layout.{lengthOf};
+ghost use Rattle.rule.specs.File.{edition};
 ghost use Rattle.rule.specs.Calls.{holds, makeFile};
 ghost use Rattle.rule.specs.Make as rule;
 ghost use Rattle.checks.specs.Facts.{Lengths};
@@ -27,10 +28,10 @@ fn shape_passes(n: u64, h: &[u8], e: &[u8], u: &[u8]) -> bool
 
 // 15, or 0 where `room` is the length of a file of n cells.
 fn check_buffer(n: usize, room: usize) -> u64
-    requires { ⌜ n ≤ mostCells ⌝ }
+    requires { ⌜ (1 ≤ n) × (n ≤ mostCells) ⌝ }
     ensures { λ r. ⌜ r ≡ numberOf (bufferChecked n room) ⌝ }
 {
-    if room != 24 + 64 * n {
+    if room != layout::length_of(layout::EDITION, n) {
         return 15;
     }
     0
@@ -48,7 +49,7 @@ fn first(one: u64, other: u64) -> u64
 
 // 1 to 5, then 15: 0, or the number of the first that fails.
 fn check(c: rule::Counts, h: &[i64], e: &[i64], u: &[i64], room: usize) -> u64
-    requires { ⌜ c .n ≤ mostCells ⌝ }
+    requires { ⌜ (1 ≤ c .n) × (c .n ≤ mostCells) ⌝ }
     ensures { λ r. ⌜ r ≡ numberOf (tested (c .n) (c .x) (c .t) (c .wanted) (now (h .entry)) (now (e .entry)) (now (u .entry)) room) ⌝ }
 {
     let input = checks::check_made(c, h, e, u);
@@ -81,7 +82,7 @@ fn make_in(
     f: &mut [i64],
     file: &mut [u8],
 ) -> rule::Answer
-    requires { ⌜ (length (now file) ≡ lengthOf (c .n)) × Lengths (c .n) (now h) (now e) (now u) (now v) (now q) (now f) ⌝ }
+    requires { ⌜ (length (now file) ≡ lengthOf edition (c .n)) × Lengths (c .n) (now h) (now e) (now u) (now v) (now q) (now f) ⌝ }
     ensures { λ r. ⌜ leavesBytes r (now (file .exit)) ≡ filed (now (file .entry)) (rule.make (c .n) (c .x) (c .t) (c .wanted) (now (h .entry)) (now (e .entry)) (now (u .entry))) ⌝ }
 {
     let r = make::make(c, h, e, u, v, q, f);
@@ -125,7 +126,7 @@ fn make_fitting(c: rule::Counts, h: &[i64], e: &[i64], u: &[i64], file: &mut [u8
 
 // From rows of whole numbers.
 fn make_rows(c: rule::Counts, h: &[i64], e: &[i64], u: &[i64], file: &mut [u8]) -> rule::Answer
-    requires { ⌜ c .n ≤ mostCells ⌝ }
+    requires { ⌜ (1 ≤ c .n) × (c .n ≤ mostCells) ⌝ }
     ensures { λ r. ⌜ leavesBytes r (now (file .exit)) ≡ makeRows (c .n) (c .x) (c .t) (c .wanted) (now (h .entry)) (now (e .entry)) (now (u .entry)) (now (file .entry)) ⌝ }
 {
     let number = check(c, h, e, u, file.len());

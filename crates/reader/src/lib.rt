@@ -4,12 +4,11 @@ ghost use mathlib.Core.Bool.{true, _&&_};
 ghost use mathlib.Core.List.{[]};
 ghost use Prim.Native.Nat.{_+_, _-_, _*_, _≤_};
 ghost use lib.ListN.{length, take};
-ghost use Rattle.rule.specs.Rows.{same};
 ghost use Rattle.rule.specs.Ranges.{cellsAllowed};
 ghost use Rattle.rule.specs.Counted.{counted, countsOf};
 ghost use Rattle.rule.specs.Refusals.{numberOf};
 ghost use Rattle.rule.specs.Checks.{checked};
-ghost use Rattle.rule.specs.File.{offsets, offsetsIn, channelOf, readWith};
+ghost use Rattle.rule.specs.File.{leastLength, channelOf, readWith};
 ghost use Rattle.rule.specs.Bytes.{rowAt};
 ghost use Rattle.rule.specs.Calls.{rowIn, readCall};
 ghost use Rattle.little.specs.Numbers.{AreBytes};
@@ -22,10 +21,10 @@ ghost use Rattle.reader.specs.Left.{lentFit, CellsFit, LevelsFit, Opens,
 fn head(s: &[u8]) -> u64
     ensures { λ r. ⌜ r ≡ numberOf (headTests (now (s .entry))) ⌝ }
 {
-    if s.len() < 48 {
+    if s.len() < layout::LEAST_LENGTH {
         return 12;
     }
-    if little::count_at(s, 0) != 1 {
+    if little::count_at(s, 0) != layout::EDITION {
         return 13;
     }
     0
@@ -44,28 +43,15 @@ fn shape_passes(n: usize, poured: bool, p: &[u8]) -> bool
     if poured { p.len() == 4 * n } else { true }
 }
 
-// The offsets are those of n cells.
-fn offsets_right(s: &[u8], n: u64) -> bool
-    requires { ⌜ (48 ≤ length (now s)) × (n ≤ 256) ⌝ }
-    ensures { λ r. ⌜ r ≡ same (offsetsIn (now (s .entry))) (offsets n) ⌝ }
-{
-    (little::count_at(s, 24) == 48)
-        & (little::count_at(s, 28) == 48 + 4 * n)
-        & (little::count_at(s, 32) == 48 + 8 * n)
-        & (little::count_at(s, 36) == 48 + 12 * n)
-        & (little::count_at(s, 40) == 48 + 16 * n)
-        & (little::count_at(s, 44) == 24 + 40 * n)
-}
-
 // 12, then 14: the length of a file of n cells, and its offsets.
 fn form(s: &[u8], n: usize) -> u64
-    requires { ⌜ (48 ≤ length (now s)) × (n ≤ 256) ⌝ }
+    requires { ⌜ (1 ≤ n) × (n ≤ 256) ⌝ }
     ensures { λ r. ⌜ r ≡ numberOf (formTests n (now (s .entry))) ⌝ }
 {
-    if s.len() != 24 + 64 * n {
+    if s.len() != layout::length_of(layout::EDITION, n) {
         return 12;
     }
-    if !offsets_right(s, n as u64) {
+    if !layout::offsets_right(s, layout::EDITION, n) {
         return 14;
     }
     0
@@ -109,7 +95,7 @@ pub fn keep_row8(s: &[u8], at: usize, row: &mut [i64])
 
 // The counts of a file: N, X, T, accepted, wanted.
 pub fn counts(s: &[u8]) -> rule::Counts
-    requires { ⌜ 48 ≤ length (now s) ⌝ }
+    requires { ⌜ leastLength ≤ length (now s) ⌝ }
     ensures { λ r. ⌜ r ≡ countsOf (channelOf (now (s .entry))) ⌝ }
 {
     let n = little::count_at(s, 4) as usize;
@@ -132,10 +118,10 @@ pub fn keep_cells(s: &[u8], h: &mut [i64], e: &mut [i64], u: &mut [i64], v: &mut
     ensures { λ r. ⌜ (now (h .exit) ≡ channelOf (now (s .entry)) .h) × (now (e .exit) ≡ channelOf (now (s .entry)) .e) × (now (u .exit) ≡ channelOf (now (s .entry)) .u) × (now (v .exit) ≡ channelOf (now (s .entry)) .v) ⌝ }
 {
     let n = h.len();
-    keep_row4(s, 48, h);
-    keep_row4(s, 48 + 4 * n, e);
-    keep_row4(s, 48 + 8 * n, u);
-    keep_row4(s, 48 + 12 * n, v);
+    keep_row4(s, layout::start_of(layout::EDITION, 0, n), h);
+    keep_row4(s, layout::start_of(layout::EDITION, 1, n), e);
+    keep_row4(s, layout::start_of(layout::EDITION, 2, n), u);
+    keep_row4(s, layout::start_of(layout::EDITION, 3, n), v);
 }
 
 // The levels of a file of n cells: of Q and of F.
@@ -143,8 +129,8 @@ pub fn keep_levels(s: &[u8], n: usize, q: &mut [i64], f: &mut [i64])
     requires { ⌜ LevelsFit n (now s) (now q) (now f) ⌝ }
     ensures { λ r. ⌜ (now (q .exit) ≡ channelOf (now (s .entry)) .Q) × (now (f .exit) ≡ channelOf (now (s .entry)) .F) ⌝ }
 {
-    keep_row8(s, 48 + 16 * n, q);
-    keep_row8(s, 24 + 40 * n, f);
+    keep_row8(s, layout::start_of(layout::EDITION, 4, n), q);
+    keep_row8(s, layout::start_of(layout::EDITION, 5, n), f);
 }
 
 // The channel of a file whose form is right: its rows in lent ones of their lengths, and its counts.

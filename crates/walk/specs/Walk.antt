@@ -9,7 +9,8 @@ use Rattle.rule.specs.Rows.{Row}
 use Rattle.rule.specs.Channel.{Channel}
 use Rattle.rule.specs.Refusals.{numberOf}
 use Rattle.rule.specs.Checks.{checked}
-use Rattle.rule.specs.File.{lengthOf, countOf, channelOf, readWith}
+use Rattle.rule.specs.Layout.{lengthOf}
+use Rattle.rule.specs.File.{edition, countOf, channelOf, readWith}
 use Rattle.rule.specs.Calls.{Called, onFile, rowIn, stepCall, filterCall, runForCall, stepFile, filterFile, runForFile}
 use Rattle.rule.specs.Ranges.{leastCells, mostCells}
 use Rattle.answers.specs.Stages.{refusal}
@@ -68,7 +69,7 @@ pub record Takes (call : Call) (n : ℕ) (s p : List ℕ) : Type 0 where
   pub least : leastCells ≤ n
   pub most : n ≤ mostCells
   pub cells : countOf s 1 ≡ n
-  pub sized : length s ≡ lengthOf n
+  pub sized : length s ≡ lengthOf edition n
   pub fits : fitsIn (poursOf call) p n ≡ true
   pub passing : Passing s
 

@@ -101,7 +101,8 @@ slice-aggregate-make-rows-3 c =
 
 make-rows-requires : tie.Need-make-rows-requires
 make-rows-requires c κs =
-    held (c .before .before .before .before .before .before .before) .most
+    let k = held (c .before .before .before .before .before .before .before) in
+    (omega (arith, k .least), k .most)
 
 same-length : tie.Need-same-length
 same-length c = search needs

@@ -1,7 +1,8 @@
 -- `walk::walk_rows` meets its contract: the call is on the file's channel, and what it leaves is written. Assumes nothing.
 use mathlib.Core.Path.{sym, _∙_, ap}
 use Rattle.rule.specs.Channel.{Channel}
-use Rattle.rule.specs.File.{lengthOf, channelOf}
+use Rattle.rule.specs.Layout.{lengthOf}
+use Rattle.rule.specs.File.{edition, channelOf}
 use Rattle.reader.specs.Held.{cells-is}
 use Rattle.walk.specs.Kept.{put-asks, put-leaves}
 use Rattle.walk.specs.Walk.{callOf, call-left}
@@ -29,7 +30,7 @@ put-requires c κs =
     let a = start o .args in
     let w = start o .pre in
     let n = ap (λ (d : Channel). d .N) (o .opened .ensures) ∙ cells-is (a .file .now) in (
-      w .0 .sized ∙ ap lengthOf (sym n),
+      w .0 .sized ∙ ap (lengthOf edition) (sym n),
       put-asks (k .called .ensures ∙ ap (callOf (a .call) (a .s .now)) (o .opened .ensures)) (call-left (a .call) (a .s .now) (channelOf (a .file .now)) (w .1)),
     )
 

@@ -8,7 +8,6 @@ use Rattle.rule.specs.Channel.{Channel}
 use Rattle.rule.specs.Counted.{counted}
 use Rattle.rule.specs.Refusals.{numberOf}
 use Rattle.rule.specs.Checks.{checked}
-use Rattle.rule.specs.File.{lengthOf}
 use Rattle.checks.specs.Allowed.{allowed-of}
 use Rattle.writer.specs.Asked.{writable-of}
 use Rattle.writer.specs.Left.{write-checked, write-unfit, write-fit}
@@ -25,8 +24,8 @@ given c =
 passed : (c : tie.Else1) → numberOf (checked (given (c .before)) []) ≡ 0
 passed c = sym (c .before .check .ensures) ∙ c .if1 .left
 
-few : (c : tie.Else1) → given (c .before) .N ≤ 256
-few c = allowed-of (given (c .before)) [] (passed c) .cells .most
+some : (c : tie.Else1) → (1 ≤ given (c .before) .N) × (given (c .before) .N ≤ 256)
+some c = let k = allowed-of (given (c .before)) [] (passed c) .cells in (omega (arith, k .least), k .most)
 
 check-requires : tie.Need-check-requires
 check-requires c κs = search needs
@@ -40,24 +39,19 @@ returns c =
     let d = k .before .before .args .d .now in
     write-checked (given k) d (c .refused .result) (k .check .result) (c .refused .ensures) (k .check .ensures) (c .before .if1 .taken)
 
-mul-if2 : tie.Need-mul-if2
-mul-if2 c = let f = few (c .before) in search needs
-
-add-if2 : tie.Need-add-if2
-add-if2 c = let f = few (c .before) in search needs
+length-of-requires : tie.Need-length-of-requires
+length-of-requires c κs = some c
 
 refused-requires-2 : tie.Need-refused-requires-2
 refused-requires-2 c κs = search needs
 
 returns-2 : tie.Need-returns-2
-unfolding lengthOf
 returns-2 c =
     let k = c .before .before .before in
     let d = k .before .before .before .args .d .now in
-    write-unfit (given (k .before)) d (c .refused2 .result) (passed k) (c .refused2 .ensures) (λ e. c .before .if2 .taken (omega arith))
+    write-unfit (given (k .before)) d (c .refused2 .result) (passed k) (c .refused2 .ensures) (λ e. omega (arith, e, c .before .if2 .taken))
 
 put-requires : tie.Need-put-requires
-unfolding lengthOf
 put-requires c κs = let k = c .before .before .before in (omega arith, writable-of (given (k .before)) [] (passed k))
 
 accepted-requires : tie.Need-accepted-requires
@@ -67,7 +61,6 @@ same-length : tie.Need-same-length
 same-length c = search needs
 
 returns-3 : tie.Need-returns-3
-unfolding lengthOf
 returns-3 c =
     let p = c .before .before .before in
     let k = p .before .before .before .before in
@@ -81,8 +74,7 @@ write-spec =
     check-requires
     refused-requires
     returns
-    mul-if2
-    add-if2
+    length-of-requires
     refused-requires-2
     returns-2
     put-requires

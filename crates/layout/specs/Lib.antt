@@ -1,0 +1,4 @@
+pub mod Table
+pub mod Places
+pub mod Counts
+pub mod Rows
