@@ -1,5 +1,4 @@
 -- `little::entry_at` meets its contract. Assumes nothing.
-use Prim.Native.Nat.{_+_, _≤_}
 use mathlib.Core.Path.{_∙_}
 use borrow.Author.Needs.{sfits-of}
 use mir.Syntax.{w64}
