@@ -10,17 +10,15 @@ use Rattle.rule.specs.Channel.{Channel, channel}
 use Rattle.rule.specs.Calls.{makeCall, stepCall, filterCall, runCall, runForCall}
 use Rattle.rule.specs.Alike.{channels, alike}
 use Rattle.rule.specs.Opened.{opened}
-use Rattle.rule.specs.Computed.{answers, thrice}
+use Rattle.rule.specs.Computed.{answers, filter-uneven-before, onto, thrice}
 
 -- a channel of 9 cells over an uneven bottom
 abbrev make-uneven-before : Channel
 make-uneven-before =
     channel 9 500 50 0 10
-    (pos 310 ∷ pos 352 ∷ pos 298 ∷ pos 405 ∷ pos 377 ∷ pos 331 ∷ pos 289 ∷ pos 344 ∷ pos 401 ∷ [])
-    (pos 12040 ∷ minus 8077 ∷ pos 3051 ∷ minus 15 ∷ pos 9904 ∷ minus 7003 ∷ pos 25001 ∷ minus 11986 ∷
-    pos 407 ∷ [])
-    (pos 1500 ∷ minus 22017 ∷ pos 9033 ∷ pos 40011 ∷ minus 3507 ∷ pos 12 ∷ minus 18049 ∷ pos 7001 ∷
-    pos 26003 ∷ [])
+    (filter-uneven-before .h)
+    (filter-uneven-before .e)
+    (filter-uneven-before .u)
     (replicate 9 (pos 0))
     (replicate 24 (pos 0))
     (replicate 27 (pos 0))
@@ -28,9 +26,9 @@ make-uneven-before =
 abbrev make-uneven-after : Channel
 make-uneven-after =
     channel 9 500 50 0 10
-    (make-uneven-before .h)
-    (make-uneven-before .e)
-    (make-uneven-before .u)
+    (filter-uneven-before .h)
+    (filter-uneven-before .e)
+    (filter-uneven-before .u)
     (pos 6084 ∷ minus 32153 ∷ pos 7086 ∷ pos 59821 ∷ minus 14833 ∷ pos 3281 ∷ minus 23903 ∷ pos 6309 ∷
     pos 44156 ∷ [])
     (thrice (minus 4492178354 ∷ minus 4503745099 ∷ pos 12335722716 ∷ pos 8708077714 ∷ minus 1878214755 ∷
@@ -61,15 +59,11 @@ step-settled-at-once-after =
     (pos 7550 ∷ pos 8277 ∷ minus 1260 ∷ minus 8888 ∷ minus 8539 ∷ pos 3157 ∷ pos 5027 ∷ minus 6730 ∷ [])
     (minus 800 ∷ pos 1602 ∷ pos 2555 ∷ pos 398 ∷ minus 1837 ∷ minus 1090 ∷ pos 394 ∷ pos 1470 ∷ [])
     (minus 953 ∷ pos 1665 ∷ pos 2655 ∷ pos 401 ∷ minus 1929 ∷ minus 1130 ∷ pos 421 ∷ pos 1593 ∷ [])
-    (pos 64365390 ∷ pos 754097899 ∷ pos 513795593 ∷ minus 261227784 ∷ minus 527808966 ∷ minus 121132827 ∷
-    pos 378997701 ∷
-    minus 9825487 ∷ pos 274718034 ∷ pos 22462801 ∷ minus 177580276 ∷ pos 64246671 ∷ minus 48498436 ∷
-    minus 173372184 ∷
-    minus 9825487 ∷ pos 274718034 ∷ pos 22462801 ∷ minus 177580276 ∷ pos 64246671 ∷ minus 48498436 ∷
-    minus 173372184 ∷ [])
-    (minus 12551 ∷ pos 44176 ∷ pos 99108 ∷ pos 43420 ∷ minus 73636 ∷ minus 86956 ∷ pos 66139 ∷ pos 78421 ∷
-    minus 12621 ∷ pos 44205 ∷ pos 99219 ∷ pos 43373 ∷ minus 73687 ∷ minus 86965 ∷ pos 66151 ∷ pos 78447 ∷
-    minus 12621 ∷ pos 44205 ∷ pos 99219 ∷ pos 43373 ∷ minus 73687 ∷ minus 86965 ∷ pos 66151 ∷ pos 78447 ∷ [])
+    (onto (pos 64365390 ∷ pos 754097899 ∷ pos 513795593 ∷ minus 261227784 ∷ minus 527808966 ∷ minus 121132827 ∷
+    pos 378997701 ∷ [])
+    (step-settled-at-once-before .Q))
+    (onto (minus 12551 ∷ pos 44176 ∷ pos 99108 ∷ pos 43420 ∷ minus 73636 ∷ minus 86956 ∷ pos 66139 ∷ pos 78421 ∷ [])
+    (step-settled-at-once-before .F))
 
 pub step-settled-at-once :
     stepCall step-settled-at-once-before (replicate 8 (pos 0))
@@ -106,18 +100,12 @@ step-eight-corrections-after =
     minus 777523 ∷ [])
     (minus 4191749 ∷ pos 1748771 ∷ minus 8627962 ∷ pos 8976004 ∷ pos 504976 ∷ pos 4149883 ∷ pos 226407 ∷
     minus 6432876 ∷ [])
-    (minus 368748532557 ∷ minus 386674176587 ∷ minus 17818537127 ∷ pos 826066927228 ∷ pos 1007558100807 ∷
-    pos 711641025435 ∷ minus 230406457169 ∷
-    minus 275646668861 ∷ minus 678285451170 ∷ pos 356313479967 ∷ pos 1369439316733 ∷ pos 748482326378 ∷
-    pos 507865047973 ∷ minus 520643743132 ∷
-    minus 275646668861 ∷ minus 678285451170 ∷ pos 356313479967 ∷ pos 1369439316733 ∷ pos 748482326378 ∷
-    pos 507865047973 ∷ minus 520643743132 ∷ [])
-    (minus 1365141 ∷ pos 11071980 ∷ pos 19534794 ∷ minus 25196770 ∷ minus 11226561 ∷ minus 6127006 ∷
-    pos 8352100 ∷ pos 23923537 ∷
-    minus 133452 ∷ minus 4356301 ∷ pos 643982 ∷ minus 9725886 ∷ pos 6243851 ∷ pos 4631604 ∷
-    minus 1616952 ∷ pos 478772 ∷
-    minus 133452 ∷ minus 4356301 ∷ pos 643982 ∷ minus 9725886 ∷ pos 6243851 ∷ pos 4631604 ∷
-    minus 1616952 ∷ pos 478772 ∷ [])
+    (onto (minus 368748532557 ∷ minus 386674176587 ∷ minus 17818537127 ∷ pos 826066927228 ∷ pos 1007558100807 ∷
+    pos 711641025435 ∷ minus 230406457169 ∷ [])
+    (step-eight-corrections-before .Q))
+    (onto (minus 1365141 ∷ pos 11071980 ∷ pos 19534794 ∷ minus 25196770 ∷ minus 11226561 ∷ minus 6127006 ∷
+    pos 8352100 ∷ pos 23923537 ∷ [])
+    (step-eight-corrections-before .F))
 
 pub step-eight-corrections :
     stepCall step-eight-corrections-before (replicate 8 (pos 0))
@@ -247,7 +235,7 @@ make-wide = alike channels (makeCall make-wide-before) (answers 0 0 0 make-wide-
 abbrev step-wide-after : Channel
 step-wide-after =
     channel 24 500 50 1 10
-    (make-wide-after .h)
+    (make-wide-before .h)
     (minus 6521 ∷ minus 8105 ∷ pos 732 ∷ pos 3851 ∷ minus 643 ∷ pos 8720 ∷ pos 14095 ∷ minus 15249 ∷
     minus 10074 ∷ minus 6270 ∷ minus 1963 ∷ pos 15237 ∷ pos 8673 ∷ minus 10098 ∷ minus 7157 ∷
     minus 10750 ∷ minus 8315 ∷ pos 5381 ∷ pos 3395 ∷ pos 13322 ∷ minus 8725 ∷ pos 9596 ∷ pos 14058 ∷
@@ -260,33 +248,17 @@ step-wide-after =
     minus 101662 ∷ pos 44309 ∷ minus 6230 ∷ pos 115193 ∷ minus 136371 ∷ pos 102998 ∷ minus 95598 ∷
     minus 38649 ∷ pos 26185 ∷ minus 112287 ∷ pos 73901 ∷ pos 22849 ∷ pos 130533 ∷ minus 119361 ∷
     minus 421 ∷ pos 30057 ∷ minus 68961 ∷ [])
-    (pos 16536972874 ∷ minus 22642325895 ∷ minus 5827968614 ∷ pos 21253385356 ∷ pos 3470046586 ∷
+    (onto (pos 16536972874 ∷ minus 22642325895 ∷ minus 5827968614 ∷ pos 21253385356 ∷ pos 3470046586 ∷
     minus 19996833548 ∷ minus 22623355189 ∷ minus 7503532075 ∷ pos 5621667412 ∷ pos 18000624825 ∷
     minus 4848709698 ∷ minus 7073790733 ∷ pos 3239284587 ∷ minus 20507741899 ∷ minus 1594318673 ∷
     minus 14271829545 ∷ minus 6223744684 ∷ pos 15778746116 ∷ pos 26388258294 ∷ pos 4756452704 ∷
-    minus 18376027859 ∷ pos 5418796356 ∷ minus 6461852634 ∷
-    pos 16758336179 ∷ minus 20327873146 ∷ minus 4929233004 ∷ pos 20457838384 ∷ pos 5508046914 ∷
-    minus 19987404916 ∷ minus 27023363467 ∷ minus 8405854475 ∷ pos 7013184493 ∷ pos 19806050852 ∷
-    minus 1518817118 ∷ minus 8172162931 ∷ minus 242542271 ∷ minus 21083879361 ∷ minus 1859433623 ∷
-    minus 13038949063 ∷ minus 3483857102 ∷ pos 17551206179 ∷ pos 25183248463 ∷ pos 2755596192 ∷
-    minus 15799535167 ∷ pos 6805506058 ∷ minus 9103066923 ∷
-    pos 16758336179 ∷ minus 20327873146 ∷ minus 4929233004 ∷ pos 20457838384 ∷ pos 5508046914 ∷
-    minus 19987404916 ∷ minus 27023363467 ∷ minus 8405854475 ∷ pos 7013184493 ∷ pos 19806050852 ∷
-    minus 1518817118 ∷ minus 8172162931 ∷ minus 242542271 ∷ minus 21083879361 ∷ minus 1859433623 ∷
-    minus 13038949063 ∷ minus 3483857102 ∷ pos 17551206179 ∷ pos 25183248463 ∷ pos 2755596192 ∷
-    minus 15799535167 ∷ pos 6805506058 ∷ minus 9103066923 ∷ [])
-    (pos 24909 ∷ minus 90057 ∷ minus 140286 ∷ pos 40243 ∷ minus 33257 ∷ minus 232909 ∷ pos 296564 ∷
+    minus 18376027859 ∷ pos 5418796356 ∷ minus 6461852634 ∷ [])
+    (make-wide-after .Q))
+    (onto (pos 24909 ∷ minus 90057 ∷ minus 140286 ∷ pos 40243 ∷ minus 33257 ∷ minus 232909 ∷ pos 296564 ∷
     pos 299969 ∷ minus 146275 ∷ minus 56711 ∷ minus 240737 ∷ minus 145542 ∷ pos 320802 ∷ pos 153358 ∷
     minus 14562 ∷ pos 40966 ∷ minus 190242 ∷ minus 120543 ∷ minus 106610 ∷ pos 179435 ∷ pos 55119 ∷
-    minus 316977 ∷ pos 129270 ∷ pos 179453 ∷
-    pos 113899 ∷ minus 93511 ∷ minus 237783 ∷ pos 101888 ∷ pos 21096 ∷ minus 266926 ∷ pos 256945 ∷
-    pos 284678 ∷ minus 154545 ∷ minus 8184 ∷ minus 209166 ∷ minus 188835 ∷ pos 351345 ∷ pos 131860 ∷
-    minus 33523 ∷ pos 60058 ∷ minus 224520 ∷ minus 119783 ∷ minus 64024 ∷ pos 211746 ∷ minus 3979 ∷
-    minus 315089 ∷ pos 160530 ∷ pos 157926 ∷
-    pos 113899 ∷ minus 93511 ∷ minus 237783 ∷ pos 101888 ∷ pos 21096 ∷ minus 266926 ∷ pos 256945 ∷
-    pos 284678 ∷ minus 154545 ∷ minus 8184 ∷ minus 209166 ∷ minus 188835 ∷ pos 351345 ∷ pos 131860 ∷
-    minus 33523 ∷ pos 60058 ∷ minus 224520 ∷ minus 119783 ∷ minus 64024 ∷ pos 211746 ∷ minus 3979 ∷
-    minus 315089 ∷ pos 160530 ∷ pos 157926 ∷ [])
+    minus 316977 ∷ pos 129270 ∷ pos 179453 ∷ [])
+    (make-wide-after .F))
 
 abbrev step-wide-poured : Row
 step-wide-poured =
@@ -331,13 +303,11 @@ step-by-hand-after =
     (minus 2 ∷ pos 30 ∷ pos 2 ∷ pos 11940 ∷ pos 2 ∷ pos 29 ∷ minus 1 ∷ pos 0 ∷ [])
     (minus 43 ∷ minus 227 ∷ minus 2248 ∷ pos 0 ∷ pos 2249 ∷ pos 230 ∷ pos 55 ∷ pos 9 ∷ [])
     (minus 4 ∷ pos 489 ∷ minus 3913 ∷ pos 0 ∷ pos 3913 ∷ minus 489 ∷ pos 4 ∷ minus 1 ∷ [])
-    (pos 81090326 ∷ minus 1509103648 ∷ minus 1600860729 ∷ pos 1601025713 ∷ pos 1510210153 ∷
-    minus 77834086 ∷ pos 14466215 ∷
-    pos 0 ∷ pos 0 ∷ pos 0 ∷ pos 0 ∷ pos 0 ∷ pos 0 ∷ pos 0 ∷
-    pos 0 ∷ pos 0 ∷ pos 0 ∷ pos 0 ∷ pos 0 ∷ pos 0 ∷ pos 0 ∷ [])
-    (minus 232 ∷ pos 9736 ∷ minus 77888 ∷ minus 1 ∷ pos 77896 ∷ minus 9741 ∷ pos 188 ∷ minus 31 ∷
-    pos 0 ∷ pos 9810 ∷ minus 78480 ∷ pos 0 ∷ pos 78480 ∷ minus 9810 ∷ pos 0 ∷ pos 0 ∷
-    pos 0 ∷ pos 9810 ∷ minus 78480 ∷ pos 0 ∷ pos 78480 ∷ minus 9810 ∷ pos 0 ∷ pos 0 ∷ [])
+    (onto (pos 81090326 ∷ minus 1509103648 ∷ minus 1600860729 ∷ pos 1601025713 ∷ pos 1510210153 ∷
+    minus 77834086 ∷ pos 14466215 ∷ [])
+    (make-by-hand-after .Q))
+    (onto (minus 232 ∷ pos 9736 ∷ minus 77888 ∷ minus 1 ∷ pos 77896 ∷ minus 9741 ∷ pos 188 ∷ minus 31 ∷ [])
+    (make-by-hand-after .F))
 
 pub step-by-hand : stepCall make-by-hand-after (replicate 8 (pos 0)) ≡ answers 0 0 3 step-by-hand-after
 unfolding opened
@@ -362,9 +332,9 @@ pub filter-too-high : filterCall filter-too-high-before ≡ answers 8 0 0 filter
 unfolding opened
 filter-too-high = alike channels (filterCall filter-too-high-before) (answers 8 0 0 filter-too-high-before) tt
 
--- a run of three steps to the end
-abbrev pub run-complete-before : Channel
-run-complete-before =
+-- a run of at most two steps pauses with 16, for the channel is not complete
+abbrev pub run-paused-before : Channel
+run-paused-before =
     channel 8 1000 20 0 3
     (pos 323 ∷ pos 299 ∷ pos 319 ∷ pos 330 ∷ pos 285 ∷ pos 311 ∷ pos 273 ∷ pos 327 ∷ [])
     (minus 6291 ∷ pos 2182 ∷ pos 5370 ∷ minus 1921 ∷ pos 2476 ∷ pos 7817 ∷ minus 6659 ∷ pos 8806 ∷ [])
@@ -375,54 +345,46 @@ run-complete-before =
     (thrice (minus 52808 ∷ minus 72691 ∷ pos 34000 ∷ pos 23533 ∷ minus 73520 ∷ pos 68513 ∷ minus 1294 ∷
     minus 112974 ∷ []))
 
-abbrev run-complete-after : Channel
-run-complete-after =
-    channel 8 1000 20 3 3
-    (run-complete-before .h)
-    (minus 6243 ∷ pos 2143 ∷ pos 5347 ∷ minus 1886 ∷ pos 2467 ∷ pos 7777 ∷ minus 6607 ∷ pos 8782 ∷ [])
-    (minus 3921 ∷ minus 3614 ∷ pos 1233 ∷ pos 1075 ∷ minus 4397 ∷ pos 3060 ∷ pos 710 ∷ minus 5246 ∷ [])
-    (minus 4268 ∷ minus 3761 ∷ pos 1417 ∷ pos 1268 ∷ minus 4826 ∷ pos 3415 ∷ pos 839 ∷ minus 5925 ∷ [])
-    (minus 1507456000 ∷ minus 326337416 ∷ pos 644642171 ∷ minus 649731317 ∷ minus 213880920 ∷
-    pos 941976053 ∷ minus 1159263234 ∷
-    minus 1041430494 ∷ minus 213101751 ∷ pos 384062229 ∷ minus 457479379 ∷ minus 210786357 ∷
-    pos 631379817 ∷ minus 664218907 ∷
-    minus 573529086 ∷ minus 100029675 ∷ pos 122537154 ∷ minus 264469892 ∷ minus 207953367 ∷
-    pos 319754473 ∷ minus 167643714 ∷ [])
-    (minus 52244 ∷ minus 72223 ∷ pos 33466 ∷ pos 23446 ∷ minus 72962 ∷ pos 68053 ∷ minus 1406 ∷
-    minus 112385 ∷
-    minus 52533 ∷ minus 72489 ∷ pos 33763 ∷ pos 23495 ∷ minus 73274 ∷ pos 68360 ∷ minus 1385 ∷
-    minus 112781 ∷
-    minus 52735 ∷ minus 72653 ∷ pos 33951 ∷ pos 23526 ∷ minus 73468 ∷ pos 68525 ∷ minus 1349 ∷
-    minus 112997 ∷ [])
-
-pub run-complete : runCall run-complete-before ≡ answers 0 0 3 run-complete-after
-unfolding opened
-run-complete = alike channels (runCall run-complete-before) (answers 0 0 3 run-complete-after) tt
-
--- a run of at most two steps pauses with 16, for the channel is not complete
 abbrev run-paused-after : Channel
 run-paused-after =
     channel 8 1000 20 2 3
-    (run-complete-before .h)
+    (run-paused-before .h)
     (minus 6268 ∷ pos 2163 ∷ pos 5362 ∷ minus 1907 ∷ pos 2474 ∷ pos 7797 ∷ minus 6641 ∷ pos 8800 ∷ [])
     (minus 2943 ∷ minus 2247 ∷ pos 640 ∷ pos 662 ∷ minus 3077 ∷ pos 1834 ∷ pos 766 ∷ minus 3243 ∷ [])
     (minus 3220 ∷ minus 2314 ∷ pos 745 ∷ pos 799 ∷ minus 3363 ∷ pos 2051 ∷ pos 867 ∷ minus 3673 ∷ [])
-    (minus 1041430494 ∷ minus 213101751 ∷ pos 384062229 ∷ minus 457479379 ∷ minus 210786357 ∷
-    pos 631379817 ∷ minus 664218907 ∷
-    minus 573529086 ∷ minus 100029675 ∷ pos 122537154 ∷ minus 264469892 ∷ minus 207953367 ∷
-    pos 319754473 ∷ minus 167643714 ∷
-    minus 104561236 ∷ pos 12790748 ∷ minus 139879033 ∷ minus 70996970 ∷ minus 204929258 ∷ pos 7329417 ∷
-    pos 328930189 ∷ [])
-    (minus 52533 ∷ minus 72489 ∷ pos 33763 ∷ pos 23495 ∷ minus 73274 ∷ pos 68360 ∷ minus 1385 ∷
-    minus 112781 ∷
-    minus 52735 ∷ minus 72653 ∷ pos 33951 ∷ pos 23526 ∷ minus 73468 ∷ pos 68525 ∷ minus 1349 ∷
-    minus 112997 ∷
-    minus 52808 ∷ minus 72691 ∷ pos 34000 ∷ pos 23533 ∷ minus 73520 ∷ pos 68513 ∷ minus 1294 ∷
-    minus 112974 ∷ [])
+    (onto (minus 1041430494 ∷ minus 213101751 ∷ pos 384062229 ∷ minus 457479379 ∷ minus 210786357 ∷
+    pos 631379817 ∷ minus 664218907 ∷ [])
+    (onto (minus 573529086 ∷ minus 100029675 ∷ pos 122537154 ∷ minus 264469892 ∷ minus 207953367 ∷
+    pos 319754473 ∷ minus 167643714 ∷ [])
+    (run-paused-before .Q)))
+    (onto (minus 52533 ∷ minus 72489 ∷ pos 33763 ∷ pos 23495 ∷ minus 73274 ∷ pos 68360 ∷ minus 1385 ∷
+    minus 112781 ∷ [])
+    (onto (minus 52735 ∷ minus 72653 ∷ pos 33951 ∷ pos 23526 ∷ minus 73468 ∷ pos 68525 ∷ minus 1349 ∷
+    minus 112997 ∷ [])
+    (run-paused-before .F)))
 
-pub run-paused : runForCall 2 run-complete-before ≡ answers 16 0 2 run-paused-after
+pub run-paused : runForCall 2 run-paused-before ≡ answers 16 0 2 run-paused-after
 unfolding opened
-run-paused = alike channels (runForCall 2 run-complete-before) (answers 16 0 2 run-paused-after) tt
+run-paused = alike channels (runForCall 2 run-paused-before) (answers 16 0 2 run-paused-after) tt
+
+-- a run of three steps to the end
+abbrev run-complete-after : Channel
+run-complete-after =
+    channel 8 1000 20 3 3
+    (run-paused-before .h)
+    (minus 6243 ∷ pos 2143 ∷ pos 5347 ∷ minus 1886 ∷ pos 2467 ∷ pos 7777 ∷ minus 6607 ∷ pos 8782 ∷ [])
+    (minus 3921 ∷ minus 3614 ∷ pos 1233 ∷ pos 1075 ∷ minus 4397 ∷ pos 3060 ∷ pos 710 ∷ minus 5246 ∷ [])
+    (minus 4268 ∷ minus 3761 ∷ pos 1417 ∷ pos 1268 ∷ minus 4826 ∷ pos 3415 ∷ pos 839 ∷ minus 5925 ∷ [])
+    (onto (minus 1507456000 ∷ minus 326337416 ∷ pos 644642171 ∷ minus 649731317 ∷ minus 213880920 ∷
+    pos 941976053 ∷ minus 1159263234 ∷ [])
+    (run-paused-after .Q))
+    (onto (minus 52244 ∷ minus 72223 ∷ pos 33466 ∷ pos 23446 ∷ minus 72962 ∷ pos 68053 ∷ minus 1406 ∷
+    minus 112385 ∷ [])
+    (run-paused-after .F))
+
+pub run-complete : runCall run-paused-before ≡ answers 0 0 3 run-complete-after
+unfolding opened
+run-complete = alike channels (runCall run-paused-before) (answers 0 0 3 run-complete-after) tt
 
 -- taken up again and allowed more steps than are left, it completes, and leaves what the run of three steps left
 pub run-resumed : runForCall 9 run-paused-after ≡ answers 0 0 1 run-complete-after

@@ -6,8 +6,7 @@ use Rattle.rule.specs.declared.Answer.{Answer}
 use Rattle.rule.specs.Ranges.{mostSteps}
 use Rattle.history.specs.FileRule as rule
 use Rattle.history.specs.FileRule.{FileCall, pour, smooth, onBytes}
-use Rattle.history.specs.FileCalls.{step-row, run-for-most}
-use Rattle.history.specs.CCalls as c
+use Rattle.history.specs.FileCalls.{step-row, run-for-most, c-run-most}
 use Rattle.history.specs.FileHistory as links
 use Rattle.history.specs.FileHistory.{FileLink, FileHistory, none, then, answer}
 
@@ -42,9 +41,9 @@ askedBy (links.step o) = step (step-row o)
 askedBy (links.filter o) = filter
 askedBy (links.run-for o) = run-for (run-for-most o)
 askedBy (links.run o) = run
-askedBy (links.c-step o) = c-step (c.step-row o)
+askedBy (links.c-step o) = c-step (step-row o)
 askedBy (links.c-filter o) = c-filter
-askedBy (links.c-run o) = c-run (c.run-most o)
+askedBy (links.c-run o) = c-run (c-run-most o)
 
 unfoldable pub asked : {s t : List ℕ} → FileHistory s t → List AnyFileCall
 asked none = []

@@ -7,27 +7,27 @@ use lib.IntN.{ℤ, pos, _+ℤ_}
 use Rattle.rule.specs.declared.Answer.{Answer}
 use Rattle.rule.specs.Calls.{Called, runForFile}
 use Rattle.rule.specs.Ranges.{mostSteps}
+use Rattle.pathpetal.specs.Packed.{unpacked}
 use Rattle.history.specs.FileRule as rule
 use Rattle.history.specs.FileRule.{FileCall, pour, smooth, onBytes, pouredWith, acceptedWith}
-use Rattle.history.specs.FileCalls.{Step, Filter, RunFor, Run, Check, Make, step-entry, step-exit, step-row, step-answer, filter-entry, filter-exit, filter-answer, run-for-most, run-for-entry, run-for-exit, run-for-answer, run-entry, run-exit, check-bytes, check-answer, make-exit, make-answer}
-use Rattle.history.specs.CCalls as c
+use Rattle.history.specs.FileCalls.{Step, Filter, RunFor, Run, Check, Make, CStep, CFilter, CRun, CCheck, CMake, step-entry, step-exit, step-row, entry, exit, run-for-most, run-for-entry, run-for-exit, c-run-most, c-run-entry, c-run-exit, check-bytes, make-exit}
 
 -- bytes that the maker or the reader accepts
 pub data FileStart : List ℕ → Type 0 where
-  made : (o : Make) → make-answer o .number ≡ 0 → FileStart (make-exit o)
-  checked : (o : Check) → check-answer o .number ≡ 0 → FileStart (check-bytes o)
-  c-made : (o : c.Make) → c.make-answer o .number ≡ 0 → FileStart (c.make-exit o)
-  c-checked : (o : c.Check) → c.check-answer o .number ≡ 0 → FileStart (c.check-bytes o)
+  made : (o : Make) → o .r .number ≡ 0 → FileStart (make-exit o)
+  checked : (o : Check) → o .r .number ≡ 0 → FileStart (check-bytes o)
+  c-made : (o : CMake) → unpacked (o .r) .number ≡ 0 → FileStart (make-exit o)
+  c-checked : (o : CCheck) → unpacked (o .r) .number ≡ 0 → FileStart (check-bytes o)
 
 -- one call, from the bytes that it is lent to the bytes that it leaves
 pub data FileLink : List ℕ → List ℕ → Type 0 where
   step : (o : Step) → FileLink (step-entry o) (step-exit o)
-  filter : (o : Filter) → FileLink (filter-entry o) (filter-exit o)
+  filter : (o : Filter) → FileLink (entry o) (exit o)
   run-for : (o : RunFor) → FileLink (run-for-entry o) (run-for-exit o)
-  run : (o : Run) → FileLink (run-entry o) (run-exit o)
-  c-step : (o : c.Step) → FileLink (c.step-entry o) (c.step-exit o)
-  c-filter : (o : c.Filter) → FileLink (c.filter-entry o) (c.filter-exit o)
-  c-run : (o : c.Run) → FileLink (c.run-entry o) (c.run-exit o)
+  run : (o : Run) → FileLink (entry o) (exit o)
+  c-step : (o : CStep) → FileLink (step-entry o) (step-exit o)
+  c-filter : (o : CFilter) → FileLink (entry o) (exit o)
+  c-run : (o : CRun) → FileLink (c-run-entry o) (c-run-exit o)
 
 -- calls one after the other, each lent what the one before left
 pub data FileHistory (s : List ℕ) : List ℕ → Type 0 where
@@ -40,19 +40,19 @@ callBy (step o) = pour (step-row o)
 callBy (filter o) = smooth
 callBy (run-for o) = rule.run-for (run-for-most o)
 callBy (run o) = rule.run-for mostSteps
-callBy (c-step o) = pour (c.step-row o)
+callBy (c-step o) = pour (step-row o)
 callBy (c-filter o) = smooth
-callBy (c-run o) = rule.run-for (c.run-most o)
+callBy (c-run o) = rule.run-for (c-run-most o)
 
--- the answer. The running program's call gives no number but how many bytes to write: for it the rule's answer stands
+-- the answer, which for C is packed in one number. The running program's call gives no number but how many bytes to write: for it the rule's answer stands
 unfoldable pub answer : {s t : List ℕ} → FileLink s t → Answer
-answer (step o) = step-answer o
-answer (filter o) = filter-answer o
-answer (run-for o) = run-for-answer o
-answer (run o) = runForFile mostSteps (run-entry o) .answer
-answer (c-step o) = c.step-answer o
-answer (c-filter o) = c.filter-answer o
-answer (c-run o) = c.run-answer o
+answer (step o) = o .r
+answer (filter o) = o .r
+answer (run-for o) = o .r
+answer (run o) = runForFile mostSteps (entry o) .answer
+answer (c-step o) = unpacked (o .r)
+answer (c-filter o) = unpacked (o .r)
+answer (c-run o) = unpacked (o .r)
 
 -- what the rule answers and leaves for the same call
 unfoldable pub ruled : {s t : List ℕ} → FileLink s t → Called (List ℕ)

@@ -17,8 +17,7 @@ use Rattle.on_file.specs.Stays.{Refused, Stepless, step-refused-file-stays, fil
 use Rattle.pathpetal.specs.Packed.{make-unpacked, check-unpacked}
 use Rattle.history.specs.FileRule.{FileCall, pour, smooth, run-for, onBytes, fileAfter, heights}
 use Rattle.history.specs.Files.{taken-bounded, make-file-taken, check-taken}
-use Rattle.history.specs.FileCalls.{Run, run-entry, run-exit, run-written, check-bytes}
-use Rattle.history.specs.CCalls as c
+use Rattle.history.specs.FileCalls.{Run, entry, exit, check-bytes}
 use Rattle.history.specs.FileHistory.{FileStart, made, checked, c-made, c-checked, FileLink, FileHistory, none, then, pouredBy, poured, accepted, answer, ruled, callBy, calls}
 use Rattle.history.specs.FileTold.{both, told, lent, left, all-left}
 
@@ -79,9 +78,9 @@ pub record Writes (s t : List ℕ) (n : ℕ) : Type 0 where
   pub all : numberOf (read s) ≡ 0 → n ≡ length t
   pub nothing : (numberOf (read s) ≡ 0 → ⊥) → n ≡ 0
 
-pub library-program-writes : (o : Run) → Writes (run-entry o) (run-exit o) (run-written o)
+pub library-program-writes : (o : Run) → Writes (entry o) (exit o) (o .r)
 library-program-writes o =
-    let s = run-entry o in
+    let s = entry o in
     let p = o .permitted .0 .1 in
     record {
       all = λ z. p .0 ∙ ap length (run-writes-all s z ∙ sym (run-leaves s) ∙ sym (p .1));
@@ -98,7 +97,7 @@ file-start-taken (checked o z) = check-taken (check-bytes o) (ap (λ r. r .numbe
 file-start-taken (c-made o z) =
     of-made (both (makeFile _ _ _ _ _ _ _ _) (make-unpacked _ _ _ _ _ _ _ _ (o .permitted .0)) (o .permitted .1)) (make-file-taken _ _ _ _ _ _ _ _) z
 file-start-taken (c-checked o z) =
-    let s = c.check-bytes o in
+    let s = check-bytes o in
     check-taken s (ap (λ r. r .number) (sym (check-unpacked s (o .permitted .0))) ∙ z)
 
 -- and so are the bytes that every call leaves

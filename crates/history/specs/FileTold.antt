@@ -11,8 +11,7 @@ use Rattle.on_file.specs.Ran.{run-leaves}
 use Rattle.pathpetal.specs.Packed.{step-unpacked, filter-unpacked, run-unpacked}
 use Rattle.history.specs.FileRule.{FileCall, onBytes, fileAfter, pouredWith, acceptedWith, filePouredBy, fileAcceptedBy}
 use Rattle.history.specs.Files.{Left, call-left}
-use Rattle.history.specs.FileCalls.{run-entry}
-use Rattle.history.specs.CCalls as c
+use Rattle.history.specs.FileCalls.{step-entry, step-row, entry, c-run-most, c-run-entry}
 use Rattle.history.specs.FileHistory.{FileLink, step, filter, run-for, run, c-step, c-filter, c-run, FileHistory, none, then, pouredBy, acceptedBy, answer, ruled, callBy, calls}
 
 -- an answer and bytes that are a call's
@@ -25,15 +24,15 @@ unfolding answer ruled callBy onBytes
 told (step o) = o .permitted .0
 told (filter o) = o .permitted .0
 told (run-for o) = o .permitted .0
-told (run o) = let s = run-entry o in both (runForFile mostSteps s) refl (o .permitted .0 .1 .1 ∙ run-leaves s)
+told (run o) = let s = entry o in both (runForFile mostSteps s) refl (o .permitted .0 .1 .1 ∙ run-leaves s)
 told (c-step o) =
-    let s = c.step-entry o in
-    let p = c.step-row o in
+    let s = step-entry o in
+    let p = step-row o in
     both (stepFile s p) (step-unpacked s p (o .permitted .0 .0)) (o .permitted .0 .1)
-told (c-filter o) = let s = c.filter-entry o in both (filterFile s) (filter-unpacked s (o .permitted .0 .0)) (o .permitted .0 .1)
+told (c-filter o) = let s = entry o in both (filterFile s) (filter-unpacked s (o .permitted .0 .0)) (o .permitted .0 .1)
 told (c-run o) =
-    let s = c.run-entry o in
-    let most = c.run-most o in
+    let s = c-run-entry o in
+    let most = c-run-most o in
     both (runForFile most s) (run-unpacked most s (o .permitted .0 .0)) (o .permitted .0 .1)
 
 -- and what it is lent are bytes

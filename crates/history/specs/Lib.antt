@@ -18,7 +18,6 @@ pub mod FileRule
 pub mod Files
 pub mod FileRuleKept
 pub mod FileCalls
-pub mod CCalls
 pub mod FileHistory
 pub mod FileTold
 pub mod FileKept

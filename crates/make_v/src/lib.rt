@@ -1,16 +1,19 @@
 // Make: from u to V.
 ghost use mathlib.Core.Path.{_≡_};
 ghost use Prim.Native.Nat.{_<_};
+ghost use lib.ListN.{length};
+ghost use Rattle.rule.specs.Rows.{cell};
 ghost use Rattle.rule.specs.Floats.{whole, _⊗_};
 ghost use Rattle.rule.specs.Coefficients.{scale, coefficients};
 ghost use Rattle.rule.specs.Make.{reducedVelocity, reducedVelocities};
 ghost use Rattle.make_v.specs.Velocities.{Given, velocitiesOf};
 
-// A coefficient times a velocity.
-fn term(k: i64, u: i64) -> f64
-    ensures { λ r. ⌜ r ≡ whole k ⊗ whole u ⌝ }
+// A coefficient times the velocity of cell j.
+fn term(k: i64, u: &[i64], j: usize) -> f64
+    requires { ⌜ j < length (now u) ⌝ }
+    ensures { λ r. ⌜ r ≡ whole k ⊗ whole (cell (now (u .entry)) j) ⌝ }
 {
-    round::to_float(k) * round::to_float(u)
+    round::to_float(k) * round::to_float(u[j])
 }
 
 // V of cell j, unrounded. The term of a dropped coefficient is left out.
@@ -20,15 +23,15 @@ fn reduced_velocity(n: usize, x: u64, h: &[i64], u: &[i64], j: usize) -> f64
 {
     let r = solve::coefficients(n, x, h, j);
     let w = round::to_float(solve::scale(x) as i64);
-    let middle = term(r.b, u[j]);
+    let middle = term(r.b, u, j);
     if j == 0 {
-        return (middle + term(r.c, u[j + 1])) / w;
+        return (middle + term(r.c, u, j + 1)) / w;
     }
-    let left = term(r.a, u[j - 1]);
+    let left = term(r.a, u, j - 1);
     if j + 1 == n {
         return (left + middle) / w;
     }
-    (left + middle + term(r.c, u[j + 1])) / w
+    (left + middle + term(r.c, u, j + 1)) / w
 }
 
 // 0 and V of each cell; or refusal 7, and zeros.

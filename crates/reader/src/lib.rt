@@ -69,30 +69,6 @@ pub fn poured_row(poured: bool, p: &[u8], n: usize) -> [i64; 256]
     }
 }
 
-// A row of entries of four bytes, from `at` on.
-pub fn keep_row4(s: &[u8], at: usize, row: &mut [i64])
-    requires { ⌜ at + 4 * length (now row) ≤ length (now s) ⌝ }
-    ensures { λ r. ⌜ now (row .exit) ≡ rowAt 4 (now (s .entry)) at (length (now (row .entry))) ⌝ }
-{
-    let mut j = 0;
-    while j < row.len() {
-        row[j] = little::signed4_at(s, at + 4 * j);
-        j += 1;
-    }
-}
-
-// A row of entries of eight bytes, from `at` on.
-pub fn keep_row8(s: &[u8], at: usize, row: &mut [i64])
-    requires { ⌜ at + 8 * length (now row) ≤ length (now s) ⌝ }
-    ensures { λ r. ⌜ now (row .exit) ≡ rowAt 8 (now (s .entry)) at (length (now (row .entry))) ⌝ }
-{
-    let mut j = 0;
-    while j < row.len() {
-        row[j] = little::signed8_at(s, at + 8 * j);
-        j += 1;
-    }
-}
-
 // The counts of a file: N, X, T, accepted, wanted.
 pub fn counts(s: &[u8]) -> rule::Counts
     requires { ⌜ leastLength ≤ length (now s) ⌝ }
@@ -118,10 +94,10 @@ pub fn keep_cells(s: &[u8], h: &mut [i64], e: &mut [i64], u: &mut [i64], v: &mut
     ensures { λ r. ⌜ (now (h .exit) ≡ channelOf (now (s .entry)) .h) × (now (e .exit) ≡ channelOf (now (s .entry)) .e) × (now (u .exit) ≡ channelOf (now (s .entry)) .u) × (now (v .exit) ≡ channelOf (now (s .entry)) .v) ⌝ }
 {
     let n = h.len();
-    keep_row4(s, layout::start_of(layout::EDITION, 0, n), h);
-    keep_row4(s, layout::start_of(layout::EDITION, 1, n), e);
-    keep_row4(s, layout::start_of(layout::EDITION, 2, n), u);
-    keep_row4(s, layout::start_of(layout::EDITION, 3, n), v);
+    little::keep_row(false, s, layout::start_of(layout::EDITION, 0, n), h);
+    little::keep_row(false, s, layout::start_of(layout::EDITION, 1, n), e);
+    little::keep_row(false, s, layout::start_of(layout::EDITION, 2, n), u);
+    little::keep_row(false, s, layout::start_of(layout::EDITION, 3, n), v);
 }
 
 // The levels of a file of n cells: of Q and of F.
@@ -129,8 +105,8 @@ pub fn keep_levels(s: &[u8], n: usize, q: &mut [i64], f: &mut [i64])
     requires { ⌜ LevelsFit n (now s) (now q) (now f) ⌝ }
     ensures { λ r. ⌜ (now (q .exit) ≡ channelOf (now (s .entry)) .Q) × (now (f .exit) ≡ channelOf (now (s .entry)) .F) ⌝ }
 {
-    keep_row8(s, layout::start_of(layout::EDITION, 4, n), q);
-    keep_row8(s, layout::start_of(layout::EDITION, 5, n), f);
+    little::keep_row(true, s, layout::start_of(layout::EDITION, 4, n), q);
+    little::keep_row(true, s, layout::start_of(layout::EDITION, 5, n), f);
 }
 
 // The channel of a file whose form is right: its rows in lent ones of their lengths, and its counts.
