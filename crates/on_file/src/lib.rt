@@ -12,11 +12,7 @@ pub fn check(s: &[u8]) -> rule::Answer
     ensures { λ r. ⌜ r ≡ checkFile (now (s .entry)) ⌝ }
     ensures { λ _. ⌜ AreBytes (now (s .entry)) ⌝ }
 {
-    rule::Answer {
-        number: reader::check(s, false, s),
-        stage: 0,
-        count: 0,
-    }
+    reader::answer(s, false, s)
 }
 
 // One step, with a row poured. The file becomes that of the channel after it, or stays as it was.

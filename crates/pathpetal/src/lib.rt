@@ -44,7 +44,7 @@ pub extern "C" fn pathpetal_check(file: &[u8]) -> u64
     ensures { λ r. ⌜ r ≡ packed (checkFile (now (file .entry))) ⌝ }
     ensures { λ _. ⌜ AreBytes (now (file .entry)) ⌝ }
 {
-    pack(on_file::check(file))
+    pack(reader::answer(file, false, file))
 }
 
 // One step, with a row poured.
@@ -53,7 +53,7 @@ pub extern "C" fn pathpetal_step(file: &mut [u8], poured: &[u8]) -> u64
     ensures { λ r. ⌜ (r ≡ packed (stepFile (now (file .entry)) (now (poured .entry)) .answer)) × (now (file .exit) ≡ stepFile (now (file .entry)) (now (poured .entry)) .left) ⌝ }
     ensures { λ _. ⌜ AreBytes (now (file .entry)) ⌝ }
 {
-    pack(on_file::step(file, poured))
+    pack(walk::walk(walk::Call::Step, file, poured))
 }
 
 // One filter pass.
@@ -62,7 +62,8 @@ pub extern "C" fn pathpetal_filter(file: &mut [u8]) -> u64
     ensures { λ r. ⌜ (r ≡ packed (filterFile (now (file .entry)) .answer)) × (now (file .exit) ≡ filterFile (now (file .entry)) .left) ⌝ }
     ensures { λ _. ⌜ AreBytes (now (file .entry)) ⌝ }
 {
-    pack(on_file::filter(file))
+    let none = [0u8; 1];
+    pack(walk::walk(walk::Call::Filter, file, &none))
 }
 
 // Steps with nothing poured: at most `most`, until complete or refused.
@@ -71,5 +72,6 @@ pub extern "C" fn pathpetal_run(file: &mut [u8], most: u64) -> u64
     ensures { λ r. ⌜ (r ≡ packed (runForFile most (now (file .entry)) .answer)) × (now (file .exit) ≡ runForFile most (now (file .entry)) .left) ⌝ }
     ensures { λ _. ⌜ AreBytes (now (file .entry)) ⌝ }
 {
-    pack(on_file::run_for(most, file))
+    let none = [0u8; 1];
+    pack(walk::walk(walk::Call::Run(most), file, &none))
 }

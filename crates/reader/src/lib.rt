@@ -13,6 +13,7 @@ ghost use Rattle.rule.specs.Bytes.{rowAt};
 ghost use Rattle.rule.specs.Calls.{rowIn, readCall};
 ghost use Rattle.little.specs.Numbers.{AreBytes};
 ghost use Rattle.checks.specs.Allowed.{pouredRows};
+ghost use Rattle.answers.specs.Stages.{early};
 ghost use Rattle.reader.specs.Reader.{fitsIn, headTests, formTests, bodyTests};
 ghost use Rattle.reader.specs.Held.{Begun, Formed};
 ghost use Rattle.reader.specs.Left.{lentFit, CellsFit, LevelsFit, Opens, leavesAll};
@@ -201,6 +202,13 @@ pub fn check(s: &[u8], poured: bool, p: &[u8]) -> u64
     body(s, n, poured, p)
 }
 
+// The same as an answer.
+pub fn answer(s: &[u8], poured: bool, p: &[u8]) -> rule::Answer
+    ensures { λ r. ⌜ r ≡ early (numberOf (readWith (fitsIn poured (now (p .entry))) (pouredRows poured (rowIn (now (p .entry)))) (now (s .entry)))) ⌝ }
+{
+    answers::refused(check(s, poured, p), 0)
+}
+
 // The reader's number for rows that are lent.
 fn check_lent(s: &[u8], h: &[i64], e: &[i64], u: &[i64], v: &[i64], q: &[i64], f: &[i64]) -> u64
     ensures { λ r. ⌜ r ≡ numberOf (readWith (lentFit (now (h .entry)) (now (e .entry)) (now (u .entry)) (now (v .entry)) (now (q .entry)) (now (f .entry))) [] (now (s .entry))) ⌝ }
@@ -239,12 +247,10 @@ pub fn read(
 {
     let number = check_lent(s, h, e, u, v, q, f);
     if number != 0 {
-        let answer = rule::Answer {
-            number,
-            stage: 0,
-            count: 0,
+        return Reading {
+            answer: answers::refused(number, 0),
+            counts: c,
         };
-        return Reading { answer, counts: c };
     }
     let counts = opened(s, h, e, u, v, q, f);
     Reading {

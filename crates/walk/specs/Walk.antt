@@ -7,16 +7,17 @@ use lib.ListN.{length, getD}
 use Rattle.rule.specs.declared.Answer.{Answer}
 use Rattle.rule.specs.Rows.{Row}
 use Rattle.rule.specs.Channel.{Channel}
-use Rattle.rule.specs.Refusals.{numberOf}
+use Rattle.rule.specs.Refusals.{Outcome, refused, done, number, numberOf}
 use Rattle.rule.specs.Checks.{checked}
 use Rattle.rule.specs.Layout.{lengthOf}
 use Rattle.rule.specs.File.{edition, countOf, channelOf, readWith}
 use Rattle.rule.specs.Calls.{Called, onFile, rowIn, stepCall, filterCall, runForCall, stepFile, filterFile, runForFile}
 use Rattle.rule.specs.Ranges.{leastCells, mostCells}
-use Rattle.answers.specs.Stages.{refusal}
+use Rattle.answers.specs.Stages.{early, stage-none}
+use Rattle.checks.specs.Numbers.{Outside}
 use Rattle.checks.specs.Allowed.{pouredRows, unpoured}
 use Rattle.reader.specs.Reader.{fitsIn}
-use Rattle.reader.specs.Opened.{Opened, read-refused, plain-read, poured-read}
+use Rattle.reader.specs.Opened.{Opened, read-outside, plain-read, poured-read}
 use Rattle.writer.specs.Left.{leavesBytes}
 use Rattle.walk.specs.declared.Call.{Call}
 use Rattle.walk.specs.declared.Call.the-variants.{Step, Filter, Run}
@@ -64,6 +65,12 @@ same-poured Step r s c e = ap (λ rows. stepCall c (getD rows 0 [])) e
 same-poured Filter r s c e = refl
 same-poured (Run most) r s c e = refl
 
+-- an answer of the reader that refuses
+by-refused : (f : Channel → Called Channel) (s : List ℕ) (m : Outcome Channel) → Outside m → (r : Answer) → r ≡ early (numberOf m) → (r .number ≡ 0 → ⊥) → leavesBytes r s ≡ onFile f s m
+unfolding onFile numberOf
+by-refused f s (refused why k) h r e z = ap (λ a. leavesBytes a s) e ∙ rw (h .0, stage-none (number why) (h .1))
+by-refused f s (done c) h r e z = absurd (z (ap (λ (a : Answer). a .number) e))
+
 -- what a call on the channel of a file s of n cells asks: that the reader takes it, with the row in the bytes p
 pub record Takes (call : Call) (n : ℕ) (s p : List ℕ) : Type 0 where
   pub least : leastCells ≤ n
@@ -81,11 +88,9 @@ module _ (call : Call) (s p : List ℕ) where
   Taken = Opened (fitsIn (poursOf call) p) (pouredRows (poursOf call) (rowIn p)) s
 
   -- bytes that the reader refuses
-  pub refused-by : (r : ℕ) → r ≡ numberOf (readWith fits (pouredRows (poursOf call) (rowIn p)) s) → (r ≡ 0 → ⊥) → leavesBytes (refusal r 0) s ≡ fileCall call s p
-  unfolding onFile fileCall
-  refused-by r e z =
-      let y = read-refused fits (pouredRows (poursOf call) (rowIn p)) s r e z in
-      rw (y .is) (ap (λ k. leavesBytes (refusal k 0) s) (y .numbered))
+  pub refused-by : (r : Answer) → r ≡ early (numberOf (readWith fits (pouredRows (poursOf call) (rowIn p)) s)) → (r .number ≡ 0 → ⊥) → leavesBytes r s ≡ fileCall call s p
+  unfolding fileCall
+  refused-by r e z = by-refused (callOf call (rowIn p)) s (readWith fits (pouredRows (poursOf call) (rowIn p)) s) (read-outside fits (pouredRows (poursOf call) (rowIn p)) s) r e z
 
   -- and those that it takes
   pub takes-of : Taken → (n : ℕ) → n ≡ countOf s 1 → Takes call n s p

@@ -113,13 +113,9 @@ pub fn walk(call: Call, file: &mut [u8], poured: &[u8]) -> rule::Answer
     ensures { λ r. ⌜ leavesBytes r (now (file .exit)) ≡ fileCall call (now (file .entry)) (now (poured .entry)) ⌝ }
     ensures { λ _. ⌜ AreBytes (now (file .entry)) ⌝ }
 {
-    let number = reader::check(file, pours(call), poured);
-    if number != 0 {
-        return rule::Answer {
-            number,
-            stage: 0,
-            count: 0,
-        };
+    let answer = reader::answer(file, pours(call), poured);
+    if answer.number != 0 {
+        return answer;
     }
     let c = reader::counts(file);
     in_arrays(call, c.n, file, poured)

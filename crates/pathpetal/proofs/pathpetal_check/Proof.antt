@@ -1,20 +1,26 @@
 -- `pathpetal::pathpetal_check` meets its contract: the answer is small. Assumes nothing.
-use mathlib.Core.Path.{sym, ap, _∙_, subst}
-use Rattle.rule.specs.Calls.{packed}
+use mathlib.Core.Path.{_≡_, sym, ap, _∙_, subst}
+use native.Mathlib.Omega.{arith}
+use Rattle.rule.specs.Calls.{packed, checkFile}
+use Rattle.on_file.specs.Ways.{check-is}
 use Rattle.pathpetal.specs.Small.{Small}
 use Rattle.pathpetal.specs.Answers.{check-answer}
 use borrow.Author.Needs.{needs}
 use Rattle.pathpetal.proofs.pathpetal_check.Statement.{statement}
 use Rattle.pathpetal.proofs.pathpetal_check.Tie as tie
 
-check-requires : tie.Need-check-requires
-check-requires c κs = search needs
+-- the reader's answer is the check's
+answered : (c : tie.After-answer) → c .answer .result ≡ checkFile (c .before .before .args .file .now)
+answered c = let s = c .before .before .args .file .now in c .answer .ensures ∙ check-is s s
+
+answer-requires : tie.Need-answer-requires
+answer-requires c κs = search needs
 
 pack-requires : tie.Need-pack-requires
-pack-requires c κs = subst Small (sym (c .check .ensures .0)) (check-answer _)
+pack-requires c κs = subst Small (sym (answered c)) (check-answer _)
 
 returns : tie.Need-returns
-returns c = let e = c .before .check .ensures in (c .pack .ensures ∙ ap packed (e .0), e .1)
+returns c = (c .pack .ensures ∙ ap packed (answered (c .before)), λ i. omega (arith, c .before .before .shared-slice-known .given i))
 
 pub pathpetal-check-spec : {M : Type 1} → statement M
-pathpetal-check-spec = tie.close (tie.spec check-requires pack-requires returns)
+pathpetal-check-spec = tie.close (tie.spec answer-requires pack-requires returns)

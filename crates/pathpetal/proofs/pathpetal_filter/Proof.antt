@@ -1,21 +1,28 @@
--- `pathpetal::pathpetal_filter` meets its contract: the answer is small. Assumes nothing.
+-- `pathpetal::pathpetal_filter` meets its contract: it is one walk, and the answer is small. Assumes nothing.
+use mathlib.Core.Path.{_∙_}
+use Rattle.walk.specs.Walk.{filter-is}
 use Rattle.pathpetal.specs.Small.{small-by, packs}
 use Rattle.pathpetal.specs.Answers.{filter-answer}
 use borrow.Author.Needs.{needs}
 use Rattle.pathpetal.proofs.pathpetal_filter.Statement.{statement}
 use Rattle.pathpetal.proofs.pathpetal_filter.Tie as tie
 
-filter-requires : tie.Need-filter-requires
-filter-requires c κs = search needs
+slice-aggregate-walk : tie.Need-slice-aggregate-walk
+slice-aggregate-walk c = search needs
+
+walk-requires : tie.Need-walk-requires
+walk-requires c κs = search needs
 
 pack-requires : tie.Need-pack-requires
-pack-requires c κs = small-by (c .before .before .filter .ensures .0) (filter-answer _)
+pack-requires c κs = small-by (c .before .before .walk .ensures .0 ∙ filter-is _ _) (filter-answer _)
 
 same-length : tie.Need-same-length
 same-length c = search needs
 
 returns : tie.Need-returns
-returns c = let e = c .before .before .before .filter .ensures in (packs (e .0) (c .pack .ensures), e .1)
+returns c =
+    let w = c .before .before .before .walk .ensures in
+    (packs (w .0 ∙ filter-is _ _) (c .pack .ensures), w .1)
 
 pub pathpetal-filter-spec : {M : Type 1} → statement M
-pathpetal-filter-spec = tie.close (tie.spec filter-requires pack-requires same-length returns)
+pathpetal-filter-spec = tie.close (tie.spec slice-aggregate-walk walk-requires pack-requires same-length returns)
