@@ -90,14 +90,7 @@ fn make_in(
     if answer.number != 0 {
         return answer;
     }
-    let after = rule::Counts {
-        n: c.n,
-        x: c.x,
-        t: c.t,
-        accepted: r.accepted,
-        wanted: c.wanted,
-    };
-    writer::put(file, after, h, e, u, v, q, f);
+    writer::put(file, c.after(r.accepted), h, e, u, v, q, f);
     answer
 }
 

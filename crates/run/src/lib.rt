@@ -1,29 +1,9 @@
 // A run over lent rows: steps with nothing poured, until complete or refused, or as many as are asked for. It keeps
 // what was accepted.
 ghost use mathlib.Core.Path.{_≡_};
-ghost use Prim.Native.Nat.{_≤_};
 ghost use Rattle.rule.specs.Counted.{counted, left};
-ghost use Rattle.rule.specs.Calls.{stepCall, ended, runCall, runForCall};
-ghost use Rattle.rule.specs.Ranges.{mostCells};
-ghost use Rattle.run.specs.Runs.{nothing, fewerOf, endingOf};
-
-// A step with nothing poured.
-fn still_step(
-    c: rule::Counts,
-    h: &[i64],
-    e: &mut [i64],
-    u: &mut [i64],
-    v: &mut [i64],
-    q: &mut [i64],
-    f: &mut [i64],
-) -> rule::Left
-    requires { ⌜ c .n ≤ mostCells ⌝ }
-    ensures { λ r. ⌜ left c r (now (h .entry)) (now (e .exit)) (now (u .exit)) (now (v .exit)) (now (q .exit)) (now (f .exit)) ≡ stepCall (counted c (now (h .entry)) (now (e .entry)) (now (u .entry)) (now (v .entry)) (now (q .entry)) (now (f .entry))) (nothing (c .n)) ⌝ }
-{
-    let s = [0i64; rule::MOST_CELLS];
-    let n = c.n;
-    step::step(c, h, e, u, v, q, f, &s[..n])
-}
+ghost use Rattle.rule.specs.Calls.{ended, runCall, runForCall};
+ghost use Rattle.run.specs.Runs.{fewerOf, endingOf};
 
 // The steps that a run takes: as many as it may, or all that are left where those are fewer.
 fn fewer(most: u64, left: u64) -> u64
@@ -62,18 +42,13 @@ pub fn run_for(
             accepted: c.accepted,
         };
     }
+    let n = c.n;
     let mut accepted = c.accepted;
     let mut count = 0;
     let mut steps = fewer(most, c.wanted - c.accepted);
     while steps > 0 {
-        let at = rule::Counts {
-            n: c.n,
-            x: c.x,
-            t: c.t,
-            accepted,
-            wanted: c.wanted,
-        };
-        let r = still_step(at, h, e, u, v, q, f);
+        let nothing = [0i64; rule::MOST_CELLS];
+        let r = step::step(c.after(accepted), h, e, u, v, q, f, &nothing[..n]);
         accepted = r.accepted;
         let a = r.answer;
         if a.number != 0 {

@@ -69,14 +69,7 @@ fn walk_rows(
 {
     let c = reader::opened(file, h, e, u, v, q, f);
     let r = called(call, c, h, e, u, v, q, f, s);
-    let after = rule::Counts {
-        n: c.n,
-        x: c.x,
-        t: c.t,
-        accepted: r.accepted,
-        wanted: c.wanted,
-    };
-    writer::put(file, after, h, e, u, v, q, f);
+    writer::put(file, c.after(r.accepted), h, e, u, v, q, f);
     r.answer
 }
 

@@ -44,11 +44,15 @@ returns c =
     let k = c .before .before .before .before .before .before in
     made-refused (lent k) (left k) (k .make .result .answer) (buffer k) (k .make .ensures) (start k .pre .1) (c .if1 .taken)
 
+after-requires : tie.Need-after-requires
+after-requires c κs = search needs
+
 put-requires : tie.Need-put-requires
 put-requires c κs =
-    let o = c .before .before .before .before in
+    let after = c .before .before .before .after .ensures in
+    let o = c .before .before .before .before .before in
     let k = o .before .before .before .before .before .before in
-    (start k .pre .0, made-writable (lent k) (left k) (k .make .result .answer) (buffer k) (k .make .ensures) (start k .pre .1) (o .if1 .left))
+    rw after (start k .pre .0, made-writable (lent k) (left k) (k .make .result .answer) (buffer k) (k .make .ensures) (start k .pre .1) (o .if1 .left))
 
 same-length-4 : tie.Need-same-length-4
 same-length-4 c = search needs
@@ -65,9 +69,10 @@ same-length-7 c = search needs
 returns-2 : tie.Need-returns-2
 returns-2 c =
     let p = c .before .before in
-    let o = p .before .before .before .before .before in
+    let after = p .before .before .before .before .after .ensures in
+    let o = p .before .before .before .before .before .before in
     let k = o .before .before .before .before .before .before in
-    made-filed (lent k) (left k) (k .make .result .answer) (buffer k) (k .make .ensures) (start k .pre .1) (p .put .last .0) (o .if1 .left) (p .put .ensures)
+    made-filed (lent k) (left k) (k .make .result .answer) (buffer k) (k .make .ensures) (start k .pre .1) (p .put .last .0) (o .if1 .left) (rw after at (p .put .ensures))
 
 pub make-in-spec : {M : Type 1} → statement M
 make-in-spec =
@@ -78,6 +83,7 @@ make-in-spec =
     same-length-2
     same-length-3
     returns
+    after-requires
     put-requires
     same-length-4
     same-length-5

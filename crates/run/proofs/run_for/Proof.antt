@@ -1,24 +1,27 @@
 -- `run::run_for` meets its contract: what is left of the run, from the rows at hand, is the whole run. Assumes nothing.
 use Prim.Native.Nat.{ℕ}
 use mathlib.Core.List.{[]}
-use mathlib.Core.Path.{_≡_, _∙_, ap}
+use mathlib.Core.Path.{_≡_, sym, _∙_, ap}
 use native.Mathlib.Omega.{arith}
 use Rattle.rule.specs.Channel.{Channel}
-use Rattle.rule.specs.Counted.{counted}
+use lib.Seq.{length-take-le}
+use Rattle.rule.specs.declared.Counts.{Counts}
+use Rattle.rule.specs.Counted.{counted, after}
+use Rattle.rule.specs.Calls.{stepCall}
 use Rattle.rule.specs.Refusals.{numberOf}
 use Rattle.rule.specs.Checks.{checked}
 use Rattle.answers.specs.Stages.{leaves}
-use Rattle.run.specs.Runs.{now, Running, run-early, run-starts, run-room, run-stops, run-on, run-ends}
+use Rattle.run.specs.Runs.{nothing-poured, now, Running, run-early, run-starts, run-room, run-stops, run-on, run-ends}
 use borrow.Author.Needs.{needs}
 use Rattle.run.proofs.run_for.Statement.{statement}
 use Rattle.run.proofs.run_for.Tie as tie
 
 abbrev Inv-loop : tie.InvT-loop
-Inv-loop most k h e₀ u₀ v₀ q₀ f₀ number accepted₀ count₀ steps₀ e u v q f accepted count steps =
+Inv-loop most k h e₀ u₀ v₀ q₀ f₀ number n accepted₀ count₀ steps₀ e u v q f accepted count steps =
     Running most (counted k h e₀ u₀ v₀ q₀ f₀) accepted e u v q f count steps
 
 abbrev μ-loop : tie.MeasureT-loop
-μ-loop most k h e₀ u₀ v₀ q₀ f₀ number accepted₀ count₀ steps₀ e u v q f accepted count steps = steps
+μ-loop most k h e₀ u₀ v₀ q₀ f₀ number n accepted₀ count₀ steps₀ e u v q f accepted count steps = steps
 
 -- the channel that a run was lent, after its checks
 abbrev lent : tie.After-check Inv-loop μ-loop → Channel
@@ -29,8 +32,22 @@ lent c =
 abbrev most : tie.After-check Inv-loop μ-loop → ℕ
 most c = c .before .before .before .before .before .before .args .most
 
+-- from a step to the loop's turn, and from there to the checks
+abbrev turn : tie.After-step Inv-loop μ-loop → tie.In-loop Inv-loop μ-loop
+turn c = c .before .before .before .before .before .before .before .before
+
+abbrev first : tie.In-loop Inv-loop μ-loop → tie.After-check Inv-loop μ-loop
+first c = c .before .before .before .before .before
+
+abbrev lent-counts : tie.After-step Inv-loop μ-loop → Counts
+lent-counts c = first (turn c) .before .before .before .before .before .before .args .c
+
 passed : (c : tie.Else1 Inv-loop μ-loop) → 0 ≡ numberOf (checked (lent (c .before)) [])
 passed c = omega (arith, c .if1 .left, c .before .check .ensures)
+
+-- the counts that a step is lent
+stepped-from : (c : tie.After-step Inv-loop μ-loop) → (let a = c .before .before .before .before .before .before .before in a .after .result ≡ after (lent-counts c) (turn c .before .loop .accepted))
+stepped-from c = c .before .before .before .before .before .before .before .after .ensures
 
 check-requires : tie.Need-check-requires Inv-loop μ-loop
 check-requires c κs = search needs
@@ -67,8 +84,17 @@ fewer-requires c κs = search needs
 loop-holds : tie.Need-loop-holds Inv-loop μ-loop
 loop-holds c = rw (c .fewer .ensures) (run-starts (most (c .before .before .before)) (lent (c .before .before .before)) (passed (c .before .before)))
 
-still-step-requires : tie.Need-still-step-requires Inv-loop μ-loop
-still-step-requires c κs = search needs
+after-requires : tie.Need-after-requires Inv-loop μ-loop
+after-requires c κs = search needs
+
+array-share-prefix-nothing : tie.Need-array-share-prefix-nothing Inv-loop μ-loop
+array-share-prefix-nothing c = search needs
+
+slice-aggregate-step : tie.Need-slice-aggregate-step Inv-loop μ-loop
+slice-aggregate-step c = sym (length-take-le _ _ (omega arith))
+
+step-requires : tie.Need-step-requires Inv-loop μ-loop
+step-requires c κs = search needs
 
 same-length-6 : tie.Need-same-length-6 Inv-loop μ-loop
 same-length-6 c = search needs
@@ -87,12 +113,18 @@ same-length-10 c = search needs
 
 returns-2 : tie.Need-returns-2 Inv-loop μ-loop
 returns-2 c =
-    let k = c .before .before .before .before .before .before .before .before .before .before .before .before .before .before .before .before .before .before .before in
-    let s = c .before .before .before .before .before .before .before .before .still-step in
-    run-stops (most k) (lent k) (c .before .before .before .before .before .before .before .before .before .before .before .before .before .before .before .loop .inv) (omega (arith, c .before .before .before .before .before .before .before .before .before .before .before .before .before .before .loop-test .taken)) (s .result .answer) (s .result .accepted) _ _ _ _ _ (s .ensures) (c .if2 .taken)
+    let s = c .before .before .before .before .before .before .before .before in
+    let i = turn s in
+    let k = first i in
+    let l = i .before .loop in
+    let r = s .step .result in
+    let p = rw (stepped-from s) at (s .step .ensures) ∙ ap (stepCall (now (most k) (lent k) (l .accepted) (l .e) (l .u) (l .v) (l .q) (l .f))) (nothing-poured (lent k .N) (l .inv .few)) in
+    run-stops (most k) (lent k) (l .inv) (omega (arith, i .loop-test .taken)) (r .answer) (r .accepted) _ _ _ _ _ p (c .if2 .taken)
 
 add-count : tie.Need-add-count Inv-loop μ-loop
-add-count c = record { fits = omega (arith, c .before .before .before .before .before .before .before .before .before .before .before .before .before .before .before .loop .inv .counted) }
+add-count c =
+    let i = turn (c .before .before .before .before .before .before .before .before) in
+    record { fits = omega (arith, i .before .loop .inv .counted) }
 
 sub-steps : tie.Need-sub-steps Inv-loop μ-loop
 sub-steps c = search needs
@@ -102,9 +134,14 @@ loop-less c = search needs
 
 loop-again : tie.Need-loop-again Inv-loop μ-loop
 loop-again c =
-    let k = c .before .before .before .before .before .before .before .before .before .before .before .before .before .before .before .before .before .before .before in
-    let s = c .before .before .before .before .before .before .before .before .still-step in
-    run-on (most k) (lent k) (c .before .before .before .before .before .before .before .before .before .before .before .before .before .before .before .loop .inv) (omega (arith, c .before .before .before .before .before .before .before .before .before .before .before .before .before .before .loop-test .taken)) (s .result .answer) (s .result .accepted) _ _ _ _ _ (s .ensures) (c .if2 .left) (s .kept .1 .1 .0) (s .kept .1 .1 .1 .0) (s .kept .1 .1 .1 .1 .0) (s .kept .1 .1 .1 .1 .1 .0) (s .kept .1 .1 .1 .1 .1 .1 .0)
+    let s = c .before .before .before .before .before .before .before .before in
+    let i = turn s in
+    let k = first i in
+    let l = i .before .loop in
+    let r = s .step .result in
+    let w = s .step .kept in
+    let p = rw (stepped-from s) at (s .step .ensures) ∙ ap (stepCall (now (most k) (lent k) (l .accepted) (l .e) (l .u) (l .v) (l .q) (l .f))) (nothing-poured (lent k .N) (l .inv .few)) in
+    run-on (most k) (lent k) (l .inv) (omega (arith, i .loop-test .taken)) (r .answer) (r .accepted) _ _ _ _ _ p (c .if2 .left) (w .1 .1 .0) (w .1 .1 .1 .0) (w .1 .1 .1 .1 .0) (w .1 .1 .1 .1 .1 .0) (w .1 .1 .1 .1 .1 .1 .0)
 
 at-end-requires : tie.Need-at-end-requires Inv-loop μ-loop
 at-end-requires c κs = search needs
@@ -148,7 +185,10 @@ run-for-spec =
     sub-fewer
     fewer-requires
     loop-holds
-    still-step-requires
+    after-requires
+    array-share-prefix-nothing
+    slice-aggregate-step
+    step-requires
     same-length-6
     same-length-7
     same-length-8

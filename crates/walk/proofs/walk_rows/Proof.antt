@@ -14,6 +14,9 @@ use Rattle.walk.proofs.walk_rows.Tie as tie
 abbrev opening : tie.After-called → tie.After-opened
 opening c = c .before .before .before .before .before .before .before .before .before .before .before .before .before
 
+abbrev called-at : tie.After-result → tie.After-called
+called-at c = c .before .before .before .before .before .before .before .before .before .before .before .before .before .before .before .before .before
+
 abbrev start : tie.After-opened → tie.Start
 start c = c .before .before .before .before .before .before .before .before .before
 
@@ -23,13 +26,18 @@ opened-requires c κs = search needs
 called-requires : tie.Need-called-requires
 called-requires c κs = search needs
 
+after-requires : tie.Need-after-requires
+after-requires c κs = search needs
+
 put-requires : tie.Need-put-requires
 put-requires c κs =
-    let k = c .before .before .before .before .before .before .before .before .before .before .before .before in
+    let after = c .before .before .before .before .before .before .after .ensures in
+    let k = c .before .before .before .before .before .before .before .before .before .before .before .before .before in
     let o = opening k in
     let a = start o .args in
     let w = start o .pre in
-    let n = ap (λ (d : Channel). d .N) (o .opened .ensures) ∙ cells-is (a .file .now) in (
+    let n = ap (λ (d : Channel). d .N) (o .opened .ensures) ∙ cells-is (a .file .now) in
+    rw after (
       w .0 .sized ∙ ap (lengthOf edition) (sym n),
       put-asks (k .called .ensures ∙ ap (callOf (a .call) (a .s .now)) (o .opened .ensures)) (call-left (a .call) (a .s .now) (channelOf (a .file .now)) (w .1)),
     )
@@ -38,30 +46,41 @@ same-length : tie.Need-same-length
 same-length c = search needs
 
 same-length-2 : tie.Need-same-length-2
-same-length-2 c = search needs
+same-length-2 c = opening (called-at c) .opened .kept .1 .0
 
 same-length-3 : tie.Need-same-length-3
-same-length-3 c = search needs
+same-length-3 c =
+    let k = called-at c in
+    k .called .kept .1 .1 .1 .0 ∙ opening k .opened .kept .1 .1 .0
 
 same-length-4 : tie.Need-same-length-4
-same-length-4 c = search needs
+same-length-4 c =
+    let k = called-at c in
+    k .called .kept .1 .1 .1 .1 .0 ∙ opening k .opened .kept .1 .1 .1 .0
 
 same-length-5 : tie.Need-same-length-5
-same-length-5 c = search needs
+same-length-5 c =
+    let k = called-at c in
+    k .called .kept .1 .1 .1 .1 .1 .0 ∙ opening k .opened .kept .1 .1 .1 .1 .0
 
 same-length-6 : tie.Need-same-length-6
-same-length-6 c = search needs
+same-length-6 c =
+    let k = called-at c in
+    k .called .kept .1 .1 .1 .1 .1 .1 .0 ∙ opening k .opened .kept .1 .1 .1 .1 .1 .0
 
 same-length-7 : tie.Need-same-length-7
-same-length-7 c = search needs
+same-length-7 c =
+    let k = called-at c in
+    k .called .kept .1 .1 .1 .1 .1 .1 .1 .0 ∙ opening k .opened .kept .1 .1 .1 .1 .1 .1 .0
 
 returns : tie.Need-returns
 returns c =
     let p = c .before .before .before in
-    let k = p .before .before .before .before .before .before .before .before .before .before .before .before .before in
+    let after = p .before .before .before .before .before .before .before .after .ensures in
+    let k = p .before .before .before .before .before .before .before .before .before .before .before .before .before .before in
     let o = opening k in
     let a = start o .args in
-    put-leaves (k .called .ensures ∙ ap (callOf (a .call) (a .s .now)) (o .opened .ensures)) (p .put .ensures)
+    put-leaves (k .called .ensures ∙ ap (callOf (a .call) (a .s .now)) (o .opened .ensures)) (rw after at (p .put .ensures))
 
 pub walk-rows-spec : {M : Type 1} → statement M
 walk-rows-spec =
@@ -69,6 +88,7 @@ walk-rows-spec =
     (tie.spec
     opened-requires
     called-requires
+    after-requires
     put-requires
     same-length
     same-length-2
