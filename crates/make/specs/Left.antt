@@ -9,7 +9,7 @@ use Rattle.whole.specs.Row.{length-tab}
 use Rattle.rule.specs.Rounded.{roundedFloat}
 use Rattle.rule.specs.Rows.{Row}
 use Rattle.rule.specs.Ranges.{cellsAllowed}
-use Rattle.rule.specs.Channel.{Channel, channel, filled, renewed}
+use Rattle.rule.specs.Channel.{Channel, moved, channel, filled, renewed}
 use Rattle.rule.specs.Refusals.{shape, speed, flux, number, Outcome, refused, done, numberOf, _>>=_, require}
 use Rattle.rule.specs.Flux.{fluxes}
 use Rattle.rule.specs.Acceleration.{accelerations}
@@ -79,7 +79,7 @@ module _ (lent : Channel) where
     -- with all rows stored
     abbrev after : Channel
     after =
-        channel (lent .N) (lent .X) (lent .T) 0 (lent .wanted) (lent .h) (lent .e) (lent .u) (renewed (lent .N) (firsts (lent .N) (r .v)) (lent .v)) (filled (firsts (lent .N - 1) (r .q)))
+        moved lent 0 (lent .e) (lent .u) (renewed (lent .N) (firsts (lent .N) (r .v)) (lent .v)) (filled (firsts (lent .N - 1) (r .q)))
         (filled (firsts (lent .N) (r .f)))
 
     pub stored : r .number ≡ 0 → length (lent .v) ≡ lent .N → leaves (acceptance 0) after ≡ makeCall lent

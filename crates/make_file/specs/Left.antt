@@ -18,13 +18,13 @@ use Rattle.rule.specs.File.{edition, fileOf}
 use Rattle.rule.specs.Calls.{Called, called, plainly, fit, makeCall, rowIn, holds}
 use Rattle.checks.specs.Tests.{both}
 use Rattle.checks.specs.Numbers.{number-not-0}
-use Rattle.checks.specs.Facts.{Lengths, cells-few, lengths-pass}
+use Rattle.checks.specs.Facts.{cells-few, lengths-pass, LengthsOf}
 use Rattle.checks.specs.Made.{Makeable}
 use Rattle.answers.specs.Stages.{leaves}
 use Rattle.reader.specs.Reader.{fitsIn}
 use Rattle.reader.specs.Held.{poured-is, four-cut}
 use Rattle.water.specs.Starts.{make-passes}
-use Rattle.writer.specs.Asked.{Writable, writable-of}
+use Rattle.writer.specs.Asked.{writable-of, WritableOf}
 use Rattle.writer.specs.Left.{leavesBytes}
 use Rattle.make_file.specs.Order.{filed}
 
@@ -43,7 +43,7 @@ fitting-of n X T wanted h e u s p =
     record { least = c .least; most = c .most; h-long = c .h-long; e-long = c .e-long; u-long = c .u-long; sized = p .1 }
 
 -- lent rows of a channel's lengths are not refused
-fits : (c : Channel) → Lengths (c .N) (c .h) (c .e) (c .u) (c .v) (c .Q) (c .F) → fit c (c .N) ≡ true
+fits : (c : Channel) → LengthsOf c → fit c (c .N) ≡ true
 unfolding fit rows
 fits c l = lengths-pass (c .N) (c .h) (c .e) (c .u) (c .v) (c .Q) (c .F) l
 
@@ -66,7 +66,7 @@ module _ (lent c : Channel) (r : Answer) (s : List ℕ) where
       (λ i. leavesBytes (p i .answer) (q i)) ∙ ap (λ (t : Called Channel). leavesBytes (record { number = 0; stage = 0; count = 0 }) (fileOf (t .left))) p
 
 -- of make, on lent rows of the lengths that it asks
-module _ (lent c : Channel) (r : Answer) (s : List ℕ) (is : leaves r c ≡ makeCall lent) (long : Lengths (lent .N) (lent .h) (lent .e) (lent .u) (lent .v) (lent .Q) (lent .F)) where
+module _ (lent c : Channel) (r : Answer) (s : List ℕ) (is : leaves r c ≡ makeCall lent) (long : LengthsOf lent) where
   abbrev made : Outcome Channel
   made = make (lent .N) (lent .X) (lent .T) (lent .wanted) (lent .h) (lent .e) (lent .u)
 
@@ -77,7 +77,7 @@ module _ (lent c : Channel) (r : Answer) (s : List ℕ) (is : leaves r c ≡ mak
   pub made-refused : (r .number ≡ 0 → ⊥) → leavesBytes r s ≡ filed s made
   made-refused z = refuses lent c r s made told z
 
-  pub made-writable : r .number ≡ 0 → Writable (c .N) (c .h) (c .e) (c .u) (c .v) (c .Q) (c .F)
+  pub made-writable : r .number ≡ 0 → WritableOf c
   made-writable z = writable-of c [] (make-passes (lent .N) (lent .X) (lent .T) (lent .wanted) (lent .h) (lent .e) (lent .u) c (makes lent c r s made told z))
 
   pub made-filed : (after : List ℕ) → r .number ≡ 0 → after ≡ fileOf c → leavesBytes r after ≡ filed s made

@@ -16,7 +16,7 @@ use Rattle.checks.specs.Numbers.{done-of}
 use Rattle.water.specs.History.{pour, smooth, next, after}
 use Rattle.water.specs.Again.{step-passes, accepted-passes}
 use Rattle.run.specs.Runs.{nothing, fewerOf, ranOf, run-goes}
-use Rattle.writer.specs.Asked.{Writable, writable-of}
+use Rattle.writer.specs.Asked.{writable-of, WritableOf}
 use Rattle.writer.specs.Left.{leavesBytes}
 
 -- a file whose channel passes the checks
@@ -54,7 +54,7 @@ run-left most c z =
 
 -- so that it is written, and the file is that of what is left
 module _ {a : Answer} {c : Channel} {k : Called Channel} (p : leaves a c ≡ k) where
-  pub put-asks : numberOf (checked (k .left) []) ≡ 0 → Writable (c .N) (c .h) (c .e) (c .u) (c .v) (c .Q) (c .F)
+  pub put-asks : numberOf (checked (k .left) []) ≡ 0 → WritableOf c
   put-asks z = writable-of c [] (ap (λ (x : Called Channel). numberOf (checked (x .left) [])) p ∙ z)
 
   pub put-leaves : {d : List ℕ} → d ≡ fileOf c → leavesBytes a d ≡ filed k

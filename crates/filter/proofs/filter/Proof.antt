@@ -3,7 +3,7 @@ use mathlib.Core.Path.{_≡_, sym, _∙_}
 use mathlib.Core.List.{[]}
 use native.Mathlib.Omega.{arith}
 use borrow.Author.Needs.{needs}
-use Rattle.rule.specs.Channel.{Channel, channel}
+use Rattle.rule.specs.Channel.{Channel, moved}
 use Rattle.rule.specs.Counted.{counted}
 use Rattle.rule.specs.Refusals.{numberOf}
 use Rattle.rule.specs.Checks.{ready}
@@ -161,7 +161,7 @@ returns-3 c =
     let l = lent (k .before) in
     let new = cells .keep-cells .ensures in
     let levels = renewed .renew-levels .ensures in
-    (λ i. leaves (c .accepted .ensures i) (channel (l .N) (l .X) (l .T) (l .accepted) (l .wanted) (l .h) (new .0 i) (new .1 i) (new .2 i) (levels .0 i) (levels .1 i)))
+    (λ i. leaves (c .accepted .ensures i) (moved l (l .accepted) (new .0 i) (new .1 i) (new .2 i) (levels .0 i) (levels .1 i)))
     ∙ stored l (passed k) (s .smoothed .result) (s .smoothed .ensures) (z .if2 .left)
 
 pub filter-spec : {M : Type 1} → statement M

@@ -7,12 +7,12 @@ use borrow.Author.Needs.{needs}
 use borrow.Author.Tests.{not-true, not-false}
 use lib.ListN.{length}
 use Rattle.rule.specs.Ranges.{cellsAllowed, leastCells, mostCells}
-use Rattle.rule.specs.Channel.{Channel, channel, rows, filled, renewed}
+use Rattle.rule.specs.Channel.{Channel, moved, rows, filled, renewed}
 use Rattle.rule.specs.Calls.{fit}
 use Rattle.rule.specs.Counted.{counted}
 use Rattle.rows.specs.Firsts.{firsts}
 use Rattle.checks.specs.Tests.{both}
-use Rattle.checks.specs.Facts.{Lengths, cells-few, lengths-of}
+use Rattle.checks.specs.Facts.{cells-few, lengths-of, LengthsOf}
 use Rattle.answers.specs.Stages.{leaves}
 use Rattle.make.specs.Left.{refused-1, refused-by, stored}
 use Rattle.make.proofs.make.Statement.{statement}
@@ -35,7 +35,7 @@ tests c = both _ _ (sym (shaped-is (c .before)) ∙ not-false _ (c .if1 .left))
 cells : (c : tie.Else1) → (leastCells ≤ lent (c .before) .N) × (lent (c .before) .N ≤ mostCells)
 cells c = cells-few (lent (c .before) .N) (tests c .0)
 
-long : (c : tie.Else1) → Lengths (lent (c .before) .N) (lent (c .before) .h) (lent (c .before) .e) (lent (c .before) .u) (lent (c .before) .v) (lent (c .before) .Q) (lent (c .before) .F)
+long : (c : tie.Else1) → LengthsOf (lent (c .before))
 unfolding fit rows
 long c = lengths-of _ _ _ _ _ _ _ (tests c .1)
 
@@ -133,7 +133,7 @@ returns-3 c =
     let v-left : v .renew .last .0 ≡ renewed (l .N) (firsts (l .N) (r .v)) (l .v) = v .renew .ensures in
     let Q-left : Q .fill .last .0 ≡ filled (firsts (l .N - 1) (r .q)) = Q .fill .ensures in
     let F-left : F .fill2 .last .0 ≡ filled (firsts (l .N) (r .f)) = F .fill2 .ensures in
-    (λ i. leaves (c .accepted .ensures i) (channel (l .N) (l .X) (l .T) 0 (l .wanted) (l .h) (l .e) (l .u) (v-left i) (Q-left i) (F-left i)))
+    (λ i. leaves (c .accepted .ensures i) (moved l 0 (l .e) (l .u) (v-left i) (Q-left i) (F-left i)))
     ∙ stored l (tests (k .before) .1) r (k .work-out .ensures) (z .if2 .left) (long (k .before) .v-long)
 
 pub make-spec : {M : Type 1} → statement M
