@@ -8,6 +8,7 @@ use mathlib.Core.List.{List, [], _∷_, _++_, append-assoc, append-nil}
 use lib.Dec.{eqb}
 use lib.ListN.{length, take, getD, length-append}
 use lib.Seq.{take-suc, length-take-le}
+use Rattle.whole.specs.Tests.{and-true}
 use Rattle.rule.specs.Rows.{same}
 use Rattle.rule.specs.Bytes.{bytes, countAt}
 use Rattle.rule.specs.File.{headBytes, countsAt}
@@ -35,10 +36,6 @@ firsts-more ns i h = ap (λ k. take k ns) (add-one i) ∙ take-suc ns i 0 h
 and-assoc : (a b c : Bool) → a && (b && c) ≡ (a && b) && c
 and-assoc true b c = refl
 and-assoc false b c = refl
-
-and-true : (a : Bool) → a && true ≡ a
-and-true true = refl
-and-true false = refl
 
 -- the counts of s from `at` on are the first ones of ns, with one more
 same-more :

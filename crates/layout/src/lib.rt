@@ -4,6 +4,7 @@ ghost use Prim.Native.Nat.{_+_, _*_, _≤_, _<_};
 ghost use lib.ListN.{length, take};
 ghost use Rattle.rule.specs.Rows.{same};
 ghost use Rattle.rule.specs.Channel.{lengths};
+ghost use Rattle.rule.specs.Ranges.{mostCells};
 ghost use Rattle.rule.specs.Layout.{countsIn, widths, headLength, span, offsets, startOf, lengthOf};
 ghost use Rattle.rule.specs.File.{headBytes, offsetsIn};
 ghost use Rattle.little.specs.Written.{written};
@@ -36,7 +37,7 @@ pub fn rows_in(edition: u64) -> usize
 
 // Where row i of a file of n cells starts, and for the row past the last where the file ends.
 fn place(edition: u64, i: usize, n: usize) -> usize
-    requires { ⌜ (i ≤ length (widths edition)) × ((1 ≤ n) × (n ≤ 256)) ⌝ }
+    requires { ⌜ (i ≤ length (widths edition)) × ((1 ≤ n) × (n ≤ mostCells)) ⌝ }
     ensures { λ r. ⌜ r ≡ headLength edition + span (take i (widths edition)) (lengths n) ⌝ }
 {
     let head = 4 * (counts_in(edition) + rows_in(edition));
@@ -49,7 +50,7 @@ fn place(edition: u64, i: usize, n: usize) -> usize
 
 // Where row i of a file of n cells starts.
 pub fn start_of(edition: u64, i: usize, n: usize) -> usize
-    requires { ⌜ (i < length (widths edition)) × ((1 ≤ n) × (n ≤ 256)) ⌝ }
+    requires { ⌜ (i < length (widths edition)) × ((1 ≤ n) × (n ≤ mostCells)) ⌝ }
     ensures { λ r. ⌜ r ≡ startOf edition n i ⌝ }
 {
     place(edition, i, n)
@@ -57,7 +58,7 @@ pub fn start_of(edition: u64, i: usize, n: usize) -> usize
 
 // How many bytes a file of n cells has.
 pub fn length_of(edition: u64, n: usize) -> usize
-    requires { ⌜ (1 ≤ n) × (n ≤ 256) ⌝ }
+    requires { ⌜ (1 ≤ n) × (n ≤ mostCells) ⌝ }
     ensures { λ r. ⌜ r ≡ lengthOf edition n ⌝ }
 {
     place(edition, rows_in(edition), n)
@@ -65,7 +66,7 @@ pub fn length_of(edition: u64, n: usize) -> usize
 
 // Whether the offsets in s are those of a file of n cells.
 pub fn offsets_right(s: &[u8], edition: u64, n: usize) -> bool
-    requires { ⌜ (headLength edition ≤ length (now s)) × ((1 ≤ n) × (n ≤ 256)) ⌝ }
+    requires { ⌜ (headLength edition ≤ length (now s)) × ((1 ≤ n) × (n ≤ mostCells)) ⌝ }
     ensures { λ r. ⌜ r ≡ same (offsetsIn edition (now (s .entry))) (offsets edition n) ⌝ }
 {
     let rows = rows_in(edition);
@@ -81,7 +82,7 @@ pub fn offsets_right(s: &[u8], edition: u64, n: usize) -> bool
 
 // The offsets of a file of n cells, written where they stand.
 pub fn put_offsets(d: &mut [u8], edition: u64, n: usize)
-    requires { ⌜ (headLength edition ≤ length (now d)) × ((1 ≤ n) × (n ≤ 256)) ⌝ }
+    requires { ⌜ (headLength edition ≤ length (now d)) × ((1 ≤ n) × (n ≤ mostCells)) ⌝ }
     ensures { λ r. ⌜ now (d .exit) ≡ written (now (d .entry)) (4 * countsIn edition) (headBytes (offsets edition n)) ⌝ }
 {
     let rows = rows_in(edition);

@@ -1,7 +1,7 @@
 // Making over the bytes of a channel file: 1 to 5, then 15, then the rest of make.
 ghost use mathlib.Core.Path.{_≡_};
 ghost use mathlib.Core.Bool.{_&&_};
-ghost use Prim.Native.Nat.{_≤_};
+ghost use Prim.Native.Nat.{_*_, _≤_};
 ghost use lib.ListN.{length};
 ghost use Rattle.rule.specs.Ranges.{cellsAllowed, mostCells};
 ghost use Rattle.rule.specs.Refusals.{numberOf};
@@ -66,7 +66,7 @@ fn cells_room() -> [i64; rule::MOST_CELLS]
 
 // An array for three levels of up to 256 entries.
 fn levels_room() -> [i64; 3 * rule::MOST_CELLS]
-    ensures { λ r. ⌜ length r ≡ 768 ⌝ }
+    ensures { λ r. ⌜ length r ≡ 3 * mostCells ⌝ }
 {
     [0; 3 * rule::MOST_CELLS]
 }

@@ -44,7 +44,7 @@ pub fn reduced_velocities(n: usize, x: u64, h: &[i64], u: &[i64]) -> Velocities
     requires { ⌜ Given n x (now h) (now u) ⌝ }
     ensures { λ r. ⌜ r ≡ velocitiesOf n (reducedVelocities n x (now (h .entry)) (now (u .entry))) ⌝ }
 {
-    let mut unrounded = [0.0; rule::MOST_CELLS];
+    let mut unrounded = [0.0; 256];
     let mut j = 0;
     while j < n {
         let v = reduced_velocity(n, x, h, u, j);

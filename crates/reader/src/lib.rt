@@ -2,20 +2,19 @@
 ghost use mathlib.Core.Path.{_≡_};
 ghost use mathlib.Core.Bool.{true, _&&_};
 ghost use mathlib.Core.List.{[]};
-ghost use Prim.Native.Nat.{_+_, _-_, _*_, _≤_};
-ghost use lib.ListN.{length, take};
-ghost use Rattle.rule.specs.Ranges.{cellsAllowed};
+ghost use Prim.Native.Nat.{_-_, _*_, _≤_};
+ghost use lib.ListN.{length};
+ghost use Rattle.rule.specs.Ranges.{cellsAllowed, mostCells};
 ghost use Rattle.rule.specs.Counted.{counted, countsOf};
 ghost use Rattle.rule.specs.Refusals.{numberOf};
 ghost use Rattle.rule.specs.Checks.{checked};
 ghost use Rattle.rule.specs.File.{leastLength, channelOf, readWith};
-ghost use Rattle.rule.specs.Bytes.{rowAt};
 ghost use Rattle.rule.specs.Calls.{rowIn, readCall};
 ghost use Rattle.little.specs.Numbers.{AreBytes};
 ghost use Rattle.checks.specs.Allowed.{pouredRows};
 ghost use Rattle.answers.specs.Stages.{early};
 ghost use Rattle.reader.specs.Reader.{fitsIn, headTests, formTests, bodyTests};
-ghost use Rattle.reader.specs.Held.{Begun, Formed};
+ghost use Rattle.reader.specs.Held.{Begun, Formed, pouredArray};
 ghost use Rattle.reader.specs.Left.{lentFit, CellsFit, LevelsFit, Opens, leavesAll};
 
 // 12, then 13: the length of the head, and the edition.
@@ -35,10 +34,7 @@ fn head(s: &[u8]) -> u64
 fn shape_passes(n: usize, poured: bool, p: &[u8]) -> bool
     ensures { λ r. ⌜ r ≡ cellsAllowed n && fitsIn poured (now (p .entry)) n ⌝ }
 {
-    if n < 8 {
-        return false;
-    }
-    if n > 256 {
+    if !checks::cells_allowed(n) {
         return false;
     }
     if poured { p.len() == 4 * n } else { true }
@@ -46,7 +42,7 @@ fn shape_passes(n: usize, poured: bool, p: &[u8]) -> bool
 
 // 12, then 14: the length of a file of n cells, and its offsets.
 fn form(s: &[u8], n: usize) -> u64
-    requires { ⌜ (1 ≤ n) × (n ≤ 256) ⌝ }
+    requires { ⌜ (1 ≤ n) × (n ≤ mostCells) ⌝ }
     ensures { λ r. ⌜ r ≡ numberOf (formTests n (now (s .entry))) ⌝ }
 {
     if s.len() != layout::length_of(layout::EDITION, n) {
@@ -58,15 +54,15 @@ fn form(s: &[u8], n: usize) -> u64
     0
 }
 
-// The poured row in an array, where one is poured.
-pub fn poured_row(poured: bool, p: &[u8], n: usize) -> [i64; 256]
-    requires { ⌜ (n ≤ 256) × (fitsIn poured (now p) n ≡ true) ⌝ }
-    ensures { λ r. ⌜ pouredRows poured (take n r) ≡ pouredRows poured (rowIn (now (p .entry))) ⌝ }
+// The poured row in an array, and zeros where none is poured.
+pub fn poured_row(poured: bool, p: &[u8], n: usize) -> [i64; rule::MOST_CELLS]
+    requires { ⌜ (n ≤ mostCells) × (fitsIn poured (now p) n ≡ true) ⌝ }
+    ensures { λ r. ⌜ r ≡ pouredArray poured n (now (p .entry)) ⌝ }
 {
     if poured {
         little::read_row4(p, 0, n)
     } else {
-        [0; 256]
+        [0; rule::MOST_CELLS]
     }
 }
 
@@ -156,12 +152,12 @@ fn values(s: &[u8], n: usize, poured: bool, p: &[u8]) -> u64
     let faces = 3 * (n - 1);
     let cells = 3 * n;
     let w = poured_row(poured, p, n);
-    let mut h = [0i64; 256];
-    let mut e = [0i64; 256];
-    let mut u = [0i64; 256];
-    let mut v = [0i64; 256];
-    let mut q = [0i64; 768];
-    let mut f = [0i64; 768];
+    let mut h = [0i64; rule::MOST_CELLS];
+    let mut e = [0i64; rule::MOST_CELLS];
+    let mut u = [0i64; rule::MOST_CELLS];
+    let mut v = [0i64; rule::MOST_CELLS];
+    let mut q = [0i64; 3 * rule::MOST_CELLS];
+    let mut f = [0i64; 3 * rule::MOST_CELLS];
     check_opened(
         s,
         &mut h[..n],

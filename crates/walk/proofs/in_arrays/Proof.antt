@@ -8,6 +8,7 @@ use Rattle.rule.specs.File.{channelOf}
 use Rattle.rule.specs.Calls.{rowIn}
 use Rattle.checks.specs.Allowed.{pouredRows}
 use Rattle.reader.specs.Reader.{fitsIn}
+use Rattle.reader.specs.Held.{pouredArray, poured-cut}
 use Rattle.reader.specs.Left.{opens-parts}
 use Rattle.walk.specs.Kept.{filed}
 use Rattle.walk.specs.Walk.{poursOf, same-poured}
@@ -21,8 +22,9 @@ start c = c .before .before .before .before
 -- the poured row, as far as the call takes one
 row : (c : tie.After-poured-row) → (let a = start c .args in pouredRows (poursOf (a .call)) (take (a .n) (c .poured-row .result)) ≡ pouredRows (poursOf (a .call)) (rowIn (a .poured .now)))
 row c =
-    let a = start c .args in
-    subst (λ b. pouredRows b (take (a .n) (c .poured-row .result)) ≡ pouredRows b (rowIn (a .poured .now))) (c .before .pours .ensures) (c .poured-row .ensures)
+    let s = start c in
+    let a = s .args in
+    poured-cut (poursOf (a .call)) (a .n) (a .poured .now) (c .poured-row .ensures ∙ ap (λ b. pouredArray b (a .n) (a .poured .now)) (c .before .pours .ensures)) (s .pre .fits)
 
 sub-faces : tie.Need-sub-faces
 sub-faces c = search needs
