@@ -6,6 +6,7 @@ use mathlib.Core.Path.{_≡_, refl, sym, ap, _∙_}
 use mathlib.Core.List.{List, [], _∷_}
 use lib.ListN.{length, take, getD}
 use lib.Seq.{take-all}
+use Rattle.rule.specs.Ranges.{mostCells}
 use Rattle.rule.specs.Channel.{lengths}
 use Rattle.rule.specs.Layout.{widths, headLength, starts, span, offsets, startOf, lengthOf}
 use Rattle.layout.specs.Table.{six, of-each, length-offsets}
@@ -58,7 +59,7 @@ pub head-within : (edition n : ℕ) → headLength edition ≤ lengthOf edition 
 unfolding lengthOf
 head-within edition n = omega arith
 
-pub length-few : (edition n : ℕ) → n ≤ 256 → lengthOf edition n ≤ 32_768
+pub length-few : (edition n : ℕ) → n ≤ mostCells → lengthOf edition n ≤ 32_768
 unfolding lengthOf headLength span lengths
 length-few edition n h =
     of-each (λ c ws. 4 * (c + length ws) + span ws (lengths n) ≤ 32_768) (omega arith) (omega arith) edition

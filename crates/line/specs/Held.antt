@@ -5,6 +5,7 @@ use mathlib.Core.Path.{_≡_, refl, sym, ap, subst, _∙_}
 use mathlib.Core.Bool.{true, false}
 use mathlib.Core.List.{List, []}
 use lib.ListN.{length, take}
+use Rattle.rule.specs.Ranges.{mostCells, mostHeight}
 use Rattle.whole.specs.Row.{padded, Within}
 use Rattle.rule.specs.Rows.{Row}
 use Rattle.rule.specs.Refusals.{Outcome, refused, done, numberOf}
@@ -63,7 +64,7 @@ module _ (s : List ℕ) (z : numberOf (read s) ≡ 0) where
     unfolding countOf
     cells-is = sym e
 
-    pub cells-some : (1 ≤ n) × (n ≤ 256)
+    pub cells-some : (1 ≤ n) × (n ≤ mostCells)
     cells-some = let o = opened in (omega (arith, o .least, cells-is), omega (arith, o .most, cells-is))
 
     pub file-long : length s ≡ lengthOf edition n
@@ -90,7 +91,7 @@ module _ (s : List ℕ) (z : numberOf (read s) ≡ 0) where
               accepted-held = h;
               wanted-held = l;
               e-long = omega (arith, long, cells-some);
-              e-small = subst (λ row. Within 20_000_000 (length row) row) (sym heights-are) (subst (λ k. Within 20_000_000 k (channelOf s .e)) (sym (cells .e-long)) (cells .e-small));
+              e-small = subst (λ row. Within mostHeight (length row) row) (sym heights-are) (subst (λ k. Within mostHeight k (channelOf s .e)) (sym (cells .e-long)) (cells .e-small));
             }
 
 -- a buffer of 64 bytes still has them when a line is put into it

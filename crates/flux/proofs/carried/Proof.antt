@@ -5,6 +5,7 @@ use native.Mathlib.Omega.{arith}
 use borrow.Author.Needs.{needs}
 use denote.Ref.{now}
 use lib.IntN.{pos, _+ℤ_, _*ℤ_}
+use Rattle.rule.specs.Ranges.{mostDepth, mostHeight, mostVelocity}
 use Rattle.whole.specs.Expr.{E, var, lit, add, mul, need, rd-is}
 use Rattle.whole.specs.Row.{Filled, filled-start, filled-step, filled-end, zeros, padded, fill-zeros}
 use Rattle.rule.specs.Rows.{cell}
@@ -21,13 +22,13 @@ abbrev μ-loop : tie.MeasureT-loop
 -- the cell at hand: its bottom, its depth and what it carries
 module _ (c : tie.In-loop Inv-loop μ-loop) where
   abbrev bed : E
-  bed = let s = c .before .before in mul (lit (pos 1000)) (var (cell (now (s .args .h)) (c .before .loop .j)) 20_000 (s .pre .depths .small .at _ (c .loop-test .taken)))
+  bed = let s = c .before .before in mul (lit (pos 1000)) (var (cell (now (s .args .h)) (c .before .loop .j)) mostDepth (s .pre .depths .small .at _ (c .loop-test .taken)))
 
   abbrev depth : E
-  depth = let s = c .before .before in add bed (var (cell (now (s .args .e)) (c .before .loop .j)) 20_000_000 (s .pre .heights .small .at _ (c .loop-test .taken)))
+  depth = let s = c .before .before in add bed (var (cell (now (s .args .e)) (c .before .loop .j)) mostHeight (s .pre .heights .small .at _ (c .loop-test .taken)))
 
   abbrev value : E
-  value = let s = c .before .before in mul depth (var (cell (now (s .args .u)) (c .before .loop .j)) 20_000_000 (s .pre .velocities .small .at _ (c .loop-test .taken)))
+  value = let s = c .before .before in mul depth (var (cell (now (s .args .u)) (c .before .loop .j)) mostVelocity (s .pre .velocities .small .at _ (c .loop-test .taken)))
 
 loop-holds : tie.Need-loop-holds Inv-loop μ-loop
 loop-holds c = (omega arith, filled-start _ _)

@@ -1,4 +1,5 @@
 -- `line::held_line` meets its contract: the line says of the file what its channel does. Assumes nothing.
+use Rattle.rule.specs.Ranges.{mostCells}
 use Rattle.rule.specs.Line.{channelLine}
 use Rattle.rule.specs.Channel.{lengths}
 use Rattle.rule.specs.Layout.{widths, lengthOf}
@@ -19,7 +20,7 @@ use Rattle.line.proofs.held_line.Tie as tie
 head : (c : tie.After-slice-known) → leastLength ≤ length (c .before .before .args .s .now)
 head c = let s = c .before .before in head-long (s .args .s .now) (s .pre .1)
 
-some : (c : tie.After-count-at) → (1 ≤ c .count-at .result) × (c .count-at .result ≤ 256)
+some : (c : tie.After-count-at) → (1 ≤ c .count-at .result) × (c .count-at .result ≤ mostCells)
 some c = let s = c .before .before .before in cells-some (s .args .s .now) (s .pre .1) (c .count-at .result) (c .count-at .ensures .0)
 
 long : (c : tie.After-count-at) → length (c .before .before .before .args .s .now) ≡ lengthOf edition (c .count-at .result)

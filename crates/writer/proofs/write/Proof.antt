@@ -4,6 +4,7 @@ use mathlib.Core.Path.{_≡_, sym, _∙_}
 use mathlib.Core.List.{[]}
 use native.Mathlib.Omega.{arith}
 use borrow.Author.Needs.{needs}
+use Rattle.rule.specs.Ranges.{mostCells}
 use Rattle.rule.specs.Channel.{Channel}
 use Rattle.rule.specs.Counted.{counted}
 use Rattle.rule.specs.Refusals.{numberOf}
@@ -24,7 +25,7 @@ given c =
 passed : (c : tie.Else1) → numberOf (checked (given (c .before)) []) ≡ 0
 passed c = sym (c .before .check .ensures) ∙ c .if1 .left
 
-some : (c : tie.Else1) → (1 ≤ given (c .before) .N) × (given (c .before) .N ≤ 256)
+some : (c : tie.Else1) → (1 ≤ given (c .before) .N) × (given (c .before) .N ≤ mostCells)
 some c = let k = allowed-of (given (c .before)) [] (passed c) .cells in (omega (arith, k .least), k .most)
 
 check-requires : tie.Need-check-requires
