@@ -3,7 +3,7 @@
    seconds of the archive and of the second program; writes the files before and after to FOLDER.
    archive stack: prints the bytes of stack that each call uses at 256 cells. */
 #define _GNU_SOURCE
-#include "../everywhere/by_second.h"
+#include "../tests/everywhere/by_second.h"
 #include "../include/pathpetal.h"
 
 #include <pthread.h>

@@ -1,7 +1,7 @@
 /* Steps of the same channel by the library and by the second program, in one run.
    Prints steps a second, nanoseconds a cell and stage, the ratio, and the most stack that one step uses. */
 #define _GNU_SOURCE
-#include "../compare/lent.h"
+#include "../tests/compare/lent.h"
 #include "../second/second.h"
 
 #include <pthread.h>
@@ -19,12 +19,14 @@ struct channel {
     int64_t h[CELLS], e[CELLS], u[CELLS], V[CELLS], Q[3 * CELLS], F[3 * CELLS], s[CELLS];
 };
 
-typedef struct lent_answer stepper(struct channel *);
+typedef struct second_answer stepper(struct channel *);
 
-static struct lent_answer library_step(struct channel *c)
+static struct second_answer library_step(struct channel *c)
 {
-    return lent_step(c->N, c->X, c->T, &c->accepted, c->wanted, c->h, c->N, c->e, c->N, c->u, c->N, c->V, c->N,
-                     c->Q, 3 * (c->N - 1), c->F, 3 * c->N, c->s, c->N);
+    uint64_t stage, count;
+    uint64_t number = lent_step(c->N, c->X, c->T, &c->accepted, c->wanted, c->h, c->N, c->e, c->N, c->u, c->N, c->V, c->N,
+                                c->Q, 3 * (c->N - 1), c->F, 3 * c->N, c->s, c->N, &stage, &count);
+    return (struct second_answer){(unsigned)number, (unsigned)stage, count};
 }
 
 static struct second_channel lend(struct channel *c)
@@ -33,12 +35,12 @@ static struct second_channel lend(struct channel *c)
                                    {c->V, c->N}, {c->Q, 3 * (c->N - 1)}, {c->F, 3 * c->N}};
 }
 
-static struct lent_answer second_does(struct channel *c)
+static struct second_answer second_does(struct channel *c)
 {
     struct second_channel lent = lend(c);
     struct second_answer a = second_step(&lent, (struct second_read_row){c->s, c->N});
     c->accepted = lent.accepted;
-    return (struct lent_answer){a.number, a.stage, a.count};
+    return a;
 }
 
 /* A smooth hump of 20 mm let go from rest in water of 1 m, over a bottom that rises gently. */
@@ -71,7 +73,7 @@ static double timed(stepper *step, struct channel c, long steps, long *stages, s
     double start = now();
     *stages = 0;
     for (long i = 0; i < steps; i++) {
-        struct lent_answer answer = step(&c);
+        struct second_answer answer = step(&c);
         if (answer.number) {
             fprintf(stderr, "step %ld refused %d\n", i, (int)answer.number);
             exit(2);

@@ -1,0 +1,496 @@
+/* calls write CALLS: draws calls of pathpetal.h from one seed and writes them to the file CALLS. What each would
+   answer is asked of the second program, so that accepted calls, each refusal at each stage and each k from 1 to 10
+   all have their share.
+   calls table CALLS ANSWERS: prints how often each answer occurred; fails if one that is known to occur did not, or if
+   a call touched a byte that is not its own.
+   calls differ CALLS ANSWERS OTHERS..: prints the first calls that one of the OTHERS answers differently, and last 'N
+   passed, M failed', by calls. */
+#include "../compare/scenes.h"
+#include "../../include/pathpetal.h"
+#include "by_second.h"
+#include "record.h"
+
+#include <inttypes.h>
+
+enum { REASONS = 17, STAGES = 11, EACH = 5000, MOST_DRAWN = 4000000 };
+static const char *const names[DO_KINDS] = {"make", "step", "filter", "check", "run"};
+
+enum { V_HALVES, FLUX_HALVES, U_HALVES, THIN, FAULTS, EDGE, VIOLENT, ANY, DRAWN, SCENES };
+static const char *const scenes[SCENES] = {
+    "every inner V of make is exactly a half",
+    "dispersive parts are exactly halves",
+    "every u of a step is exactly a half",
+    "sides of the solve fall below the least normal float",
+    "several faults at once, so that their order decides",
+    "a flux just out of range",
+    "fast or much poured, over long steps",
+    "levels that do not belong to the heights",
+    "drawn at random",
+};
+
+/* How often each answer occurred, of a step by its k too, and each scene. */
+static long total[DO_KINDS], answered[DO_KINDS][REASONS][STAGES], settled[STAGES], shown[SCENES][DO_KINDS];
+
+/* Counts an answer; 0 if it is none that a call can give. */
+static bool counted(const struct record *r, uint64_t answer)
+{
+    unsigned number = pathpetal_number(answer), stage = pathpetal_stage(answer);
+    uint64_t count = pathpetal_count(answer);
+    if (r->kind >= DO_KINDS || r->scene >= SCENES || number >= REASONS || stage >= STAGES)
+        return false;
+    if (r->kind == DO_STEP && number == 0 && (count < 1 || count > 10))
+        return false;
+    total[r->kind]++;
+    answered[r->kind][number][stage]++;
+    shown[r->scene][r->kind]++;
+    if (r->kind == DO_STEP && number == 0)
+        settled[count]++;
+    return true;
+}
+
+/* What is known to occur. 6 is not: no channel is known that meets it. */
+static bool due(unsigned kind, unsigned number, unsigned stage)
+{
+    bool input = (number >= 1 && number <= 5) || (number >= 12 && number <= 14);
+    switch (kind) {
+    case DO_MAKE: return stage == 0 && (number <= 5 || number == 7 || number == 9 || number == 15);
+    case DO_CHECK: return stage == 0 && (number == 0 || input);
+    case DO_FILTER: return stage == 0 && (number == 0 || input || number == 11 || (number >= 7 && number <= 9));
+    case DO_RUN: input |= number == 0 || number == 16; break;
+    default: input |= number == 0 || number == 11; break;
+    }
+    if (stage == 0)
+        return input || (number >= 7 && number <= 9);
+    if (number == 10)
+        return stage == 10;
+    if (kind == DO_RUN)
+        return stage <= 2 && (number == 4 || number == 7 || number == 8);
+    return number == 4 || number == 7 || number == 8 || (number == 9 && stage <= 2);
+}
+
+static long missing(bool say)
+{
+    long n = 0;
+    for (unsigned kind = 0; kind < DO_KINDS; kind++) {
+        if (total[kind] < EACH) {
+            n++;
+            if (say)
+                printf("fewer than %d calls of %s\n", EACH, names[kind]);
+        }
+        for (unsigned number = 0; number < REASONS; number++)
+            for (unsigned stage = 0; stage < STAGES; stage++)
+                if (due(kind, number, stage) && !answered[kind][number][stage]) {
+                    n++;
+                    if (say)
+                        printf("%s never answered %u at stage %u\n", names[kind], number, stage);
+                }
+    }
+    for (int k = 1; k <= 10; k++)
+        if (!settled[k]) {
+            n++;
+            if (say)
+                printf("no step settled at correction %d\n", k);
+        }
+    return n;
+}
+
+/* The call at hand, its file's bytes before it, and where the calls that are kept go. */
+static struct record r;
+static FILE *out;
+static long drawn;
+
+static uint64_t by_second(struct record *c)
+{
+    const uint64_t *n = c->number;
+    struct string *f = &c->string[FILE_STRING], *a = &c->string[FIRST_ROW], *b = &c->string[SECOND_ROW],
+                  *d = &c->string[THIRD_ROW];
+    switch (c->kind) {
+    case DO_MAKE:
+        return by_second_make(n[0], n[1], n[2], n[3], a->at, a->len, b->at, b->len, d->at, d->len, f->at, f->len);
+    case DO_STEP: return by_second_step(f->at, f->len, a->at, a->len);
+    case DO_FILTER: return by_second_filter(f->at, f->len);
+    case DO_CHECK: return by_second_check(f->at, f->len);
+    default: return by_second_run(f->at, f->len, n[0]);
+    }
+}
+
+/* Whether a call with this answer is to be kept: a share for each. */
+static bool share_left(uint64_t answer)
+{
+    unsigned number = pathpetal_number(answer), stage = pathpetal_stage(answer);
+    long share = number == 0 || number == PATHPETAL_MORE ? 2600 : stage == 0 ? 300 : 80;
+    if (r.scene <= FAULTS && shown[r.scene][r.kind] < 400)
+        return true;
+    if (r.kind == DO_STEP && number == 0)
+        return settled[pathpetal_count(answer)] < 250;
+    return answered[r.kind][number][stage] < share;
+}
+
+/* The second program does the call at hand; r.string[FILE_STRING] is then what it left. */
+static uint64_t offer(unsigned kind)
+{
+    static struct record before;
+    r.kind = kind;
+    before = r;
+    uint64_t answer = by_second(&r);
+    drawn++;
+    if (share_left(answer) && counted(&before, answer))
+        put_record(out, &before);
+    return pathpetal_number(answer);
+}
+
+/* The lowest bytes of a value. */
+static void put_value(uint8_t *at, int64_t value, size_t bytes)
+{
+    for (size_t i = 0; i < bytes; i++)
+        at[i] = (uint8_t)((uint64_t)value >> 8 * i);
+}
+
+static void put_row(struct string *to, const int64_t *row, size_t len, size_t bytes)
+{
+    for (size_t j = 0; j < len; j++, to->len += bytes)
+        put_value(to->at + to->len, row[j], bytes);
+}
+
+static void clear(void)
+{
+    memset(r.number, 0, sizeof r.number);
+    for (int i = 0; i < STRINGS; i++)
+        r.string[i].len = 0;
+}
+
+/* Depths, heights and velocities, and room for the file with anything in it. */
+static void as_make(const struct call *c)
+{
+    clear();
+    const uint64_t counts[NUMBERS] = {c->N, c->X, c->T, c->wanted};
+    memcpy(r.number, counts, sizeof counts);
+    for (int i = 0; i < 3; i++) {
+        put_row(&r.string[FIRST_ROW + i], c->row[ROW_h + i], c->len[ROW_h + i], 4);
+        if (one_in(300))
+            r.string[FIRST_ROW + i].len ^= (size_t)between(1, 3);
+    }
+    r.string[FILE_STRING].len = c->N <= CELLS ? pathpetal_length((size_t)c->N) : 600;
+    if (one_in(30))
+        r.string[FILE_STRING].len = (size_t)(one_in(2) ? (int64_t)r.string[FILE_STRING].len + PICK(1, -1) : between(0, 17000));
+    for (size_t i = 0; i < r.string[FILE_STRING].len; i++)
+        r.string[FILE_STRING].at[i] = (uint8_t)draw();
+}
+
+/* The file of a channel, right or not. */
+static void as_file(const struct call *c)
+{
+    struct string *f = &r.string[FILE_STRING];
+    uint64_t N = c->N;
+    const int64_t head[12] = {1, (int64_t)N, (int64_t)c->X, (int64_t)c->T, (int64_t)c->accepted, (int64_t)c->wanted, 48,
+                              48 + 4 * (int64_t)N, 48 + 8 * (int64_t)N, 48 + 12 * (int64_t)N, 48 + 16 * (int64_t)N,
+                              24 + 40 * (int64_t)N};
+    clear();
+    put_row(f, head, 12, 4);
+    for (int i = ROW_h; i <= ROW_V; i++)
+        put_row(f, c->row[i], c->len[i], 4);
+    put_row(f, c->row[ROW_Q], c->len[ROW_Q], 8);
+    put_row(f, c->row[ROW_F], c->len[ROW_F], 8);
+}
+
+/* One count, offset, length or value of the file at hand at its bound or beyond it. */
+static void damage(void)
+{
+    static const int64_t bounds[] = {20000, 20000000, 20000000, 2000000000, 1000000000000000, 100000000000};
+    static const int64_t counts[] = {0, 1, 2, 7, 8, 9, 10, 11, 48, 99, 100, 101, 255, 256, 257, 4999, 5000, 5001, 999999,
+                                     1000000, 1000001, INT32_MAX, UINT32_MAX};
+    struct string *f = &r.string[FILE_STRING];
+    size_t N = f->len >= 48 ? pathpetal_cells(f->at) : 0;
+    bool whole = N >= 8 && N <= CELLS && f->len == pathpetal_length(N);
+    int64_t count = counts[draw() % (sizeof counts / sizeof *counts)];
+    switch (draw() % (whole ? 10 : 4)) {
+    case 0: f->len = f->len && one_in(2) ? f->len + (size_t)PICK(1, -1) : (size_t)between(0, (int64_t)f->len + 600); break;
+    case 1: f->len = (size_t)PICK(0, 1, 4, 47, 48, 49, 535, 536, 537, 16407, 16408, 16409); break;
+    case 2: case 3: case 4:
+        if (f->len >= 48) {
+            size_t at = 4 * (size_t)(draw() % 12);
+            put_value(f->at + at, one_in(2) ? count : (int64_t)pathpetal_word(f->at + at) + PICK(1, -1, 4, -4), 4);
+        }
+        break;
+    default: {
+        size_t row = (size_t)(draw() % 6), len = row == 4 ? 3 * (N - 1) : row == 5 ? 3 * N : N, bytes = row < 4 ? 4 : 8;
+        size_t at = pathpetal_word(f->at + 24 + 4 * row) + bytes * (size_t)(draw() % len);
+        int64_t value = one_in(6) ? PICK(INT64_MIN, INT64_MAX, INT32_MIN, INT32_MAX, 0, 1, -1) : about(bounds[row]);
+        if (at + bytes <= f->len)
+            put_value(f->at + at, value, bytes);
+        break;
+    }
+    }
+    if (f->len > 18000)
+        f->len = 18000;
+}
+
+/* A poured row for the file at hand, or zeros where nothing is given. */
+static void pour(const int64_t *s)
+{
+    struct string *f = &r.string[FILE_STRING], *p = &r.string[FIRST_ROW];
+    size_t N = f->len >= 48 ? pathpetal_cells(f->at) : 8;
+    p->len = 0;
+    for (size_t j = 0; j < (N <= CELLS ? N : 8); j++, p->len += 4)
+        put_value(p->at + p->len, s ? s[j] : 0, 4);
+    if (one_in(25) && p->len) {
+        int64_t sign = PICK(1, -1), amount = 1000000 + PICK(0, 0, 1, -1, 1000000000);
+        put_value(p->at + 4 * (size_t)(draw() % (p->len / 4)), sign * amount, 4);
+    }
+    if (one_in(40))
+        p->len = one_in(2) ? p->len + (size_t)PICK(1, 4) : (size_t)between(0, 1100);
+}
+
+/* How many steps a run may take: seldom so many that the emulated library is long at it. */
+static uint64_t most(void)
+{
+    const struct string *f = &r.string[FILE_STRING];
+    uint64_t N = f->len >= 48 ? pathpetal_cells(f->at) : 8;
+    uint64_t left = f->len >= 48 ? (uint64_t)pathpetal_wanted(f->at) - pathpetal_accepted(f->at) : 0;
+    uint64_t few = N > 20 ? 2 : 8;
+    return left <= few ? (uint64_t)PICK(0, 1, (int64_t)left, (int64_t)left + 1, INT64_MAX, -1) : (uint64_t)between(0, (int64_t)few);
+}
+
+/* Some calls in a row on the file at hand. */
+static void go_on(const struct call *c)
+{
+    for (int i = 0; i < 4; i++) {
+        unsigned kind = one_in(4) ? DO_FILTER : one_in(4) ? DO_RUN : one_in(8) ? DO_CHECK : DO_STEP;
+        for (int hits = one_in(8) ? (int)between(1, 3) : 0; hits > 0; hits--)
+            damage();
+        pour(c->row[ROW_s]);
+        r.number[0] = kind == DO_RUN ? most() : 0;
+        if (kind != DO_STEP)
+            r.string[FIRST_ROW].len = 0;
+        uint64_t number = offer(kind);
+        if (number && number != PATHPETAL_MORE)
+            break;
+    }
+}
+
+/* A make, and if it is accepted calls on its file. */
+static void from_make(const struct call *c, unsigned scene)
+{
+    as_make(c);
+    r.scene = scene;
+    if (offer(DO_MAKE))
+        return;
+    struct string made = r.string[FILE_STRING];
+    clear();
+    r.string[FILE_STRING] = made;
+    go_on(c);
+}
+
+static void from_file(const struct call *c, unsigned scene)
+{
+    as_file(c);
+    r.scene = scene;
+    go_on(c);
+}
+
+/* Shallow water in wide cells that moves in the first cell alone. */
+static void thin(struct call *c)
+{
+    scene(c);
+    lengths(c, (size_t)between(40, 60));
+    c->X = (uint64_t)between(4000, 5000), c->T = (uint64_t)between(1, 100), c->wanted = 3, c->accepted = 0;
+    memset(c->row, 0, sizeof c->row);
+    for (size_t j = 0; j < c->N; j++)
+        c->row[ROW_h][j] = 1 + (one_in(9) ? 1 : 0);
+    c->row[ROW_V][0] = between(-20000000, 20000000);
+}
+
+/* A channel with some of the faults of its counts and values, and a poured row beside it with some of its own. */
+static void faulty(struct call *c)
+{
+    size_t N = (size_t)between(8, 12), j = (size_t)between(0, (int64_t)N - 1);
+    lengths(c, N);
+    memset(c->row, 0, sizeof c->row);
+    c->X = 500, c->T = (uint64_t)between(1, 20), c->wanted = 9, c->accepted = (uint64_t)between(0, 8);
+    for (size_t i = 0; i < N; i++)
+        c->row[ROW_h][i] = 1000, c->row[ROW_e][i] = between(-500, 500);
+    if (one_in(4))
+        c->X = (uint64_t)PICK(9, 5001);
+    if (one_in(4))
+        c->accepted = (uint64_t)PICK(9, 9, 9, 10);
+    if (one_in(4)) {
+        int64_t sign = PICK(1, -1), size = PICK(20001, 20000001, 2000000001, 1000000000000001);
+        c->row[PICK(ROW_h, ROW_e, ROW_u, ROW_V, ROW_Q, ROW_F)][j] = sign * size;
+    }
+    if (one_in(3))
+        c->row[ROW_e][(j + 1) % N] = -999001;
+    if (one_in(3))
+        c->row[ROW_h][(j + 2) % N] = 20000;
+    if (one_in(3))
+        c->row[ROW_s][(j + 3) % N] = PICK(1, -1) * 1000001;
+}
+
+/* Calls with several faults: of the channel, of the file around it, of the room for it. */
+static void with_faults(struct call *c)
+{
+    unsigned kind = (unsigned)PICK(DO_MAKE, DO_STEP, DO_STEP, DO_STEP, DO_FILTER, DO_CHECK, DO_RUN);
+    struct string *f = &r.string[FILE_STRING], *p = &r.string[FIRST_ROW];
+    faulty(c);
+    r.scene = FAULTS;
+    if (kind == DO_MAKE) {
+        if (one_in(6))
+            spoil(c);
+        if (one_in(3))
+            c->row[ROW_u][0] = c->row[ROW_u][3] = PICK(1, -1) * 20000000, c->X = 10;
+        as_make(c);
+        if (one_in(2))
+            f->len = (f->len + (size_t)PICK(1, 64, 128, 600)) % 17000;
+        offer(DO_MAKE);
+        return;
+    }
+    as_file(c);
+    if (kind == DO_STEP) {
+        put_row(p, c->row[ROW_s], c->N, 4);
+        if (one_in(3))
+            p->len += (size_t)PICK(4, -4, 1);
+    }
+    r.number[0] = kind == DO_RUN ? most() : 0;
+    if (one_in(5)) {
+        int64_t offset = between(0, 1000);
+        put_value(f->at + 24 + 4 * (size_t)between(0, 5), offset, 4);
+    }
+    if (one_in(5))
+        f->len += (size_t)PICK(1, 64, -1, -64);
+    if (one_in(12))
+        put_value(f->at + 4, PICK(0, 7, 257, UINT32_MAX), 4);
+    if (one_in(12))
+        put_value(f->at, PICK(0, 2, 257), 4);
+    if (one_in(20))
+        f->len = (size_t)between(0, 48);
+    offer(kind);
+}
+
+static void one_scene(struct call *c)
+{
+    switch (draw() % 19) {
+    case 18: with_faults(c); break;
+    case 0: reduced_halves(c); from_make(c, V_HALVES); break;
+    case 1:
+        flux_halves(c);
+        c->wanted = (uint64_t)between(1, 4);
+        memset(c->row[ROW_s], 0, sizeof c->row[ROW_s]);
+        from_make(c, FLUX_HALVES);
+        break;
+    case 2: velocity_halves(c); from_file(c, U_HALVES); break;
+    case 3: if (one_in(4)) { thin(c); from_file(c, THIN); } break;
+    case 4: if (just_too_much(c)) from_make(c, EDGE); break;
+    case 5: case 6: case 7: case 8: violent(c); from_make(c, VIOLENT); break;
+    case 9: case 10: case 11: scene(c); any_levels(c); from_file(c, ANY); break;
+    default:
+        scene(c);
+        if (one_in(4))
+            spoil(c);
+        from_make(c, DRAWN);
+        break;
+    }
+}
+
+static int write_calls(const char *to)
+{
+    static struct call c;
+    out = opened(to, "wb");
+    for (size_t i = 0; i < sizeof c.row / sizeof(int64_t); i++)
+        ((int64_t *)c.row)[i] = (int64_t)draw();
+    while (missing(false) && drawn < MOST_DRAWN)
+        one_scene(&c);
+    if (fclose(out)) {
+        perror(to);
+        return 2;
+    }
+    printf("%ld calls drawn\n", drawn);
+    return missing(true) != 0;
+}
+
+static int table(const char *calls, const char *answers)
+{
+    static struct reply reply;
+    FILE *from = opened(calls, "rb"), *of = opened(answers, "rb");
+    long stray = 0;
+    while (more(from)) {
+        get_record(from, &r);
+        get_reply(of, &reply);
+        if (!counted(&r, reply.answer) || !reply.kept)
+            stray++;
+    }
+    for (unsigned kind = 0; kind < DO_KINDS; kind++) {
+        printf("%-7s %6ld calls", names[kind], total[kind]);
+        for (unsigned number = 0; number < REASONS; number++) {
+            long n = 0;
+            for (unsigned stage = 0; stage < STAGES; stage++)
+                n += answered[kind][number][stage];
+            if (n)
+                printf(", %u: %ld", number, n);
+        }
+        printf("\n");
+    }
+    for (unsigned number = 1; number < REASONS; number++) {
+        bool any = false;
+        for (unsigned stage = 1; stage < STAGES; stage++)
+            any |= answered[DO_STEP][number][stage] != 0;
+        if (!any)
+            continue;
+        printf("step refused %2u at stage 0 to 10:", number);
+        for (unsigned stage = 0; stage < STAGES; stage++)
+            printf(" %ld", answered[DO_STEP][number][stage]);
+        printf("\n");
+    }
+    printf("step settled at correction 1 to 10:");
+    for (int k = 1; k <= 10; k++)
+        printf(" %ld", settled[k]);
+    printf("\n");
+    for (unsigned i = 0; i < SCENES; i++) {
+        printf("%s:", scenes[i]);
+        for (unsigned kind = 0; kind < DO_KINDS; kind++)
+            if (shown[i][kind])
+                printf(" %s %ld", names[kind], shown[i][kind]);
+        printf("\n");
+    }
+    if (stray)
+        printf("%ld calls answered what none can, or touched a byte that is not theirs\n", stray);
+    return missing(true) || stray;
+}
+
+/* The calls that some of the others answer differently; at most five of them are told. */
+static int differ(const char *calls, const char *answers, char **others, int n)
+{
+    static struct reply a, b;
+    FILE *from = opened(calls, "rb"), *one = opened(answers, "rb"), *other[8];
+    long place = 0, differing = 0, told = 0;
+    for (int i = 0; i < n; i++)
+        other[i] = opened(others[i], "rb");
+    for (; more(from); place++) {
+        bool same = true;
+        get_record(from, &r);
+        get_reply(one, &a);
+        for (int i = 0; i < n; i++) {
+            get_reply(other[i], &b);
+            bool bytes = a.file.len == b.file.len && !memcmp(a.file.at, b.file.at, a.file.len);
+            if (a.answer == b.answer && a.kept == b.kept && bytes)
+                continue;
+            same = false;
+            if (told++ < 5)
+                printf("%s, call %ld, %s, %s: answers %" PRIu64 ", not %" PRIu64 "%s\n", others[i], place, names[r.kind],
+                       scenes[r.scene], b.answer, a.answer, bytes ? "" : ", other bytes");
+        }
+        differing += !same;
+    }
+    printf("%ld passed, %ld failed\n", place - differing, differing);
+    return differing != 0;
+}
+
+int main(int argc, char **argv)
+{
+    if (argc == 3 && !strcmp(argv[1], "write"))
+        return write_calls(argv[2]);
+    if (argc == 4 && !strcmp(argv[1], "table"))
+        return table(argv[2], argv[3]);
+    if (argc >= 5 && argc <= 12 && !strcmp(argv[1], "differ"))
+        return differ(argv[2], argv[3], argv + 4, argc - 4);
+    fputs("usage: calls write CALLS | table CALLS ANSWERS | differ CALLS ANSWERS OTHERS..\n", stderr);
+    return 2;
+}

@@ -1,0 +1,168 @@
+"""A START that is damaged, files of the wrong kind, and places that meet."""
+import os, random, shutil, struct
+
+from common import (COUNTS, DONE, OPEN, OPTIONS, REFUSED, TOP, check, forget, from_shell, go, group, listing, read,
+    start, taken, tested, write)
+from formats import counts
+
+
+def start_faults(begin):
+    group("START damaged, truncated, a directory, absent, a million bytes")
+    os.mkdir("folder")
+    bad = {"empty": (b"", 12), "47 bytes": (begin[:47], 12), "truncated by one": (begin[:-1], 12),
+           "truncated to half": (begin[:900], 12),
+           "one byte more": (begin + b"\0", 12), "a million bytes": ((begin * 600)[:1000000], 12),
+           "a million zeros": (bytes(1000000), 13),
+           "edition 2": (b"\2" + begin[1:], 13), "7 cells": (begin[:4] + b"\7\0\0\0" + begin[8:], 1),
+           "2^31 cells": (begin[:4] + b"\0\0\0\x80" + begin[8:], 1),
+           "offsets": (begin[:24] + b"\x31" + begin[25:], 14), "width 0": (begin[:8] + bytes(4) + begin[12:], 2),
+           "more accepted than wanted": (begin[:16] + struct.pack("<I", 301) + begin[20:], 2),
+           "depth 0": (begin[:48] + bytes(4) + begin[52:], 3),
+           "dry": (begin[:168] + struct.pack("<i", -900000) + begin[172:], 4), "a survey": (read("start.csv"), 12),
+           "text": (b"hello\n" * 200, 13)}
+    if len(read("start.csv")) >= 48:
+        bad["a survey"] = (read("start.csv"), 13)
+    for name, (data, number) in bad.items():
+        write("bad.channel", data)
+        for line in (("run", "bad.channel", "-o", "bad.end", *OPTIONS, "--record", "bad.record", "--checkpoint",
+                         "bad.check", "--checkpoint-every", 5),
+                     ("show", "bad.channel", "--svg", "bad.svg"), ("check", "bad.channel")):
+            before = listing()
+            go(*line, status=REFUSED, says=f"bad.channel: refused, number {number}: .*to mend: ",
+                name=f"{line[0]} {name}")
+            check(listing() == before, f"{line[0]} {name}: something was written or changed")
+    for path, words in (("folder", "folder: cannot be read: Is a directory"),
+                        ("absent", "absent: cannot be read: No such file"),
+                        ("start.channel/x", "Not a directory"), ("loop", "cannot be read: Too many levels")):
+        if path == "loop":
+            os.symlink("loop", "loop")
+        for line in (("run", path, "-o", "bad.end"), ("show", path), ("check", path)):
+            before = listing()
+            go(*line, status=REFUSED, says=words)
+            check(listing() == before, "nothing is written")
+    draw = random.Random(tested.seed)
+    wrong = 0
+    for _ in range(60):
+        data = bytearray(begin)
+        for _ in range(draw.choice((1, 1, 3, 20))):
+            data[draw.randrange(len(data) if draw.random() < 0.5 else 60)] = draw.randrange(256)
+        write("bad.channel", bytes(data))
+        process = start("run", "bad.channel", "-o", "bad.end", "--filter-every", 3, "--replace")
+        _, err = process.communicate()
+        good = process.returncode in (DONE, REFUSED, OPEN) and read("bad.channel") == bytes(data)
+        if process.returncode == REFUSED:
+            good = good and not os.path.exists("bad.end") and b"refused, number" in err
+        elif good:
+            _, accepted, wanted = counts(read("bad.end"))
+            good = taken("bad.end")[0] and (accepted == wanted) == (process.returncode == DONE)
+            os.remove("bad.end")
+        wrong += not check(good, f"bytes changed at random: status {process.returncode} {err!r}")
+    os.remove("loop")
+    os.remove("bad.channel")
+    os.rmdir("folder")
+
+
+def other_files(begin, record):
+    group("files of the wrong kind")
+    folder = os.path.join(TOP, "examples")
+    a_record = "to mend: this is a staff record, not a channel; pathpetal show --staff shows it\n$"
+    a_table = "to mend: this is a table, not a channel; pathpetal make makes a channel from a survey\n$"
+    files = {"a record": (record, a_record), "an open record": (record[:200], a_record),
+        "a short record": (record[:40], a_record),
+        "a record after a byte-order mark": (b"\xef\xbb\xbf" + record, a_record),
+        "a long record": (record * 50, a_record), "a survey": (read("start.csv"), a_table),
+        "a survey of one column": (b"depth_mm\r\n" + b"1000\r\n" * 30, a_table),
+        "a survey with remarks": (read(os.path.join(folder, "survey.csv")), a_table),
+        "a survey with semicolons": (read("start.csv").replace(b",", b";"), a_table),
+        "a survey with tabs": (read("start.csv").replace(b",", b"\t"), a_table),
+        "a short table": (b"a,b\n1,2\n", a_table), "poured water": (read("pour.csv"), a_table),
+        "words": (b"nothing of all this\n" * 9, "to mend: take a fresh copy of the file"),
+        "a channel cut short": (begin[:-5], "to mend: take a fresh copy of the file")}
+    for name, (data, words) in files.items():
+        write("other", data)
+        number = 12 if len(data) < 48 or data[:4] == begin[:4] else 13
+        for line in (("show", "other"), ("show", "other", "--svg", "o.svg"), ("check", "other"),
+            ("check", "other", "--complete"), ("run", "other", "-o", "o.channel", *OPTIONS, "--record", "o.csv")):
+            before = listing()
+            go(*line, status=REFUSED, says=f"^pathpetal: other: refused, number {number}: [^\n]*\npathpetal: {words}",
+                name=f"{line[0]} {name}")
+            check(listing() == before, f"{line[0]} {name}: something was written")
+    for name, data in {"a channel": begin, "a channel cut short": begin[:100], "its first bytes": begin[:4]}.items():
+        write("other", data)
+        go("show", "--staff", "other", "--svg", "o.svg", status=REFUSED, name=f"show --staff {name}",
+            says="^pathpetal: other: is a channel file and no table\npathpetal: to mend: leave out --staff to show a "
+            "channel file\n$")
+        for line in (("make", "other", "-o", "o.channel", *COUNTS),
+            ("run", "start.channel", "-o", "o.channel", "--pour", "other")):
+            go(*line, status=REFUSED, says="^pathpetal: other: is a channel file and no table\n$",
+                name=f"{line[0]} {name} for a table")
+    check(not any(os.path.exists(name) for name in ("o.svg", "o.channel", "o.csv")), "something was written")
+    from_shell("(printf '\\1'; sleep 0.2; printf '\\0\\0\\0.') ", "show", "--staff", "/dev/stdin", status=REFUSED,
+        says="is a channel file")
+    for data in (b"\1", b"\1\0\0", b"\0\0\0\0\0", b"\2\0\0\0"):
+        write("other", data)
+        go("show", "--staff", "other", status=REFUSED, says="other: line 1: ", name=f"show --staff {data!r}")
+    forget("other")
+
+
+def same_places(begin):
+    group("START and END the same, and other places that meet")
+    os.link("start.channel", "hard.channel")
+    os.symlink("start.channel", "soft.channel")
+    os.symlink(".", "here")
+    os.symlink("nowhere", "dangling")
+    os.mkdir("deep")
+    everything = ("--record", "r.csv", "--staff", 1, "--checkpoint", "c.channel", "--checkpoint-every", 5)
+
+    def changed(option, value):
+        words = list(everything)
+        words[words.index(option) + 1] = value
+        return words
+
+    cases = [((*everything, "-o", end), "START and END are the same file") for end in
+             ("start.channel", "./start.channel", "hard.channel", "soft.channel", "here/start.channel",
+             "deep/../start.channel", os.path.abspath("start.channel"), "here/here/hard.channel")]
+    cases += [((*changed("--checkpoint", path), "-o", "e.channel"), "START and the checkpoint are the same file")
+        for path in ("start.channel", "hard.channel", "soft.channel")]
+    cases += [((*changed("--record", path), "-o", "e.channel"), "START and RECORD are the same file")
+        for path in ("start.channel", "hard.channel", "here/start.channel")]
+    cases += [((*changed("--checkpoint", "here/e.channel"), "-o", "e.channel"),
+        "END and the checkpoint are the same file"),
+              ((*changed("--record", "e.channel"), "-o", "./e.channel"), "END and RECORD are the same file"),
+              ((*changed("--record", "c.channel"), "-o", "e.channel"), "the checkpoint and RECORD are the same file"),
+              ((*everything, "-o", "r.csv.open"), "END and RECORD.open are the same file"),
+              ((*everything, "--pour", "pour.csv", "-o", "pour.csv"), "POUR and END are the same file"),
+              ((*changed("--record", "pour.csv"), "--pour", "pour.csv", "-o", "e.channel"),
+              "POUR and RECORD are the same file"),
+              ((*everything, "-o", "dangling"), "dangling: is a symbolic link"),
+              ((*everything, "-o", "deep"), "deep: is a folder"),
+              ((*everything, "-o", "deep/"), "names a folder"),
+              ((*everything, "-o", "/dev/null"), "/dev/null: is a device or pipe"),
+              ((*changed("--record", "/dev/null"), "-o", "e.channel"), "/dev/null: is a device or pipe"),
+              ((*changed("--checkpoint", "deep"), "-o", "e.channel"), "deep: is a folder")]
+    for words, message in cases:
+        for replace in ((), ("--replace",)):
+            before = listing()
+            go("run", "start.channel", *words, *replace, status=REFUSED, says=message)
+            check(listing() == before, f"{words}: something was written or changed")
+    shutil.copy("start.channel", "x.channel")
+    os.symlink("x.channel", "r9.csv.open")
+    go("run", "start.channel", "-o", "e.channel", *changed("--record", "r9.csv"), status=REFUSED,
+        says="r9.csv.open: is a symbolic link")
+    check(read("x.channel") == begin, "a file behind a link keeps its bytes")
+    os.rename("start.channel", "r8.csv.open")
+    go("run", "r8.csv.open", "-o", "e.channel", *changed("--record", "r8.csv"), status=REFUSED,
+        says="START and RECORD.open are the same file")
+    os.rename("r8.csv.open", "start.channel")
+    go("show", "start.channel", "--svg", "start.channel", "--replace", status=REFUSED,
+        says="FILE and PICTURE are the same file")
+    go("show", "start.channel", "--svg", "hard.channel", "--replace", status=REFUSED,
+        says="FILE and PICTURE are the same file")
+    go("show", "--staff", "one.csv", "--svg", "one.csv", "--replace", status=REFUSED,
+        says="RECORD and PICTURE are the same file")
+    check(read("start.channel") == begin and read("hard.channel") == begin, "START has its bytes")
+    go("run", "soft.channel", "-o", "e.channel", name="START by a link")
+    check(os.path.islink("soft.channel") and read("start.channel") == begin, "START has its bytes")
+    for name in ("hard.channel", "soft.channel", "here", "dangling", "e.channel", "x.channel", "r9.csv.open"):
+        os.remove(name)
+    os.rmdir("deep")

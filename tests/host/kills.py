@@ -1,0 +1,204 @@
+"""Signals and kills at random moments, and the same command again after them."""
+import os, random, re, signal, subprocess, time
+
+from common import (DONE, INTERRUPTED, check, end_is_true, forget, go, group, listing, parts_left, read, saved, start,
+    taken, tested, write)
+from formats import counts, sha, survey, up_to, whole_record
+
+
+def long_channel():
+    """A channel, its table of poured water and its options for a run of some tenths of a second."""
+    draw = random.Random(3)
+    write("long.csv", survey([(1500 + draw.randrange(200), draw.randrange(30000)) for _ in range(48)],
+        "depth_mm,height_um"))
+    write("long.pour", "step,cell,amount_um\n" + "".join(
+        f"{step},{draw.randrange(48) + 1},{draw.randrange(-200, 200)}\n" for step in range(1, 3000, 9)))
+    go("make", "long.csv", "-o", "long.channel", "--width-mm", 1500, "--step-ms", 30, "--steps", 3000)
+    options = ("--filter-every", 40, "--pour", "long.pour", "--staff", "2,47", "--every", 10)
+    go("run", "long.channel", "-o", "long.end", *options, "--record", "long.record")
+    return options, read("long.channel"), read("long.end"), read("long.record")
+
+
+def end_while_it_waits(name, line, waits, begun, begin):
+    """A run gets the beginning of an input and then nothing more: the signal ends it, and nothing is written."""
+    os.mkfifo("fifo")
+    before = set(os.listdir("."))
+    reader, writer = os.pipe()
+    process = start("run", *line, "-o", "w.channel", "--staff", 1, "--record", "w.csv", "--checkpoint", "w.check",
+        "--checkpoint-every", 5, stdin=reader, preexec_fn=lambda: signal.signal(name, signal.SIG_DFL))
+    os.close(reader)
+    if begun and waits == "fifo":
+        os.close(writer)
+        writer = os.open("fifo", os.O_WRONLY)
+    os.write(writer, begun)
+    time.sleep(0.1)
+    waited = process.poll() is None
+    process.send_signal(name)
+    try:
+        process.wait(timeout=1)
+    except subprocess.TimeoutExpired:
+        process.kill()
+    _, err = process.communicate(timeout=60)
+    os.close(writer)
+    what = f"{name.name}, run {' '.join(line)} after {begun!r}"
+    check(waited and process.returncode == -name, f"{what}: status {process.returncode}: {err!r}")
+    check(set(os.listdir(".")) == before and read("start.channel") == begin, f"{what}: something was written")
+    os.remove("fifo")
+
+
+def waiting(begin):
+    group("signals while a run waits for its inputs")
+    for name in (signal.SIGINT, signal.SIGTERM, signal.SIGHUP):
+        for waits in ("fifo", "/dev/stdin"):
+            for begun in (b"", b"\1\0"):
+                end_while_it_waits(name, (waits,), waits, begun, begin)
+            for begun in (b"", b"step,cell,amount_um\n1,1,"):
+                end_while_it_waits(name, ("start.channel", "--pour", waits), waits, begun, begin)
+
+
+def interrupted(options, begin, end, record, wanted, every, where):
+    group(f"interrupted runs, gone on with by the same command, {where}")
+    draw = random.Random(tested.seed + 1)
+    command = ("run", "long.channel", "-o", "i.channel", *options, "--record", "i.csv", "--checkpoint", "i.check",
+        "--checkpoint-every", every)
+    began = time.monotonic()
+    go(*command)
+    whole = time.monotonic() - began
+    left = ("i.csv", "i.csv.open", *saved("i.check", "i.channel"))
+    forget(*left)
+    stops = early = late = 0
+    for k in range(100):
+        if stops >= wanted:
+            break
+        name, tries, reached = (signal.SIGINT, signal.SIGTERM, signal.SIGHUP)[k % 3], 0, 0
+        while True:
+            tries += 1
+            process = start(*command, *(("--replace",) if k % 4 == 3 else ()))
+            if tries <= 3:
+                time.sleep(draw.uniform(0, whole * 0.7))
+                process.send_signal(name)
+            _, err = process.communicate(timeout=60)
+            check(read("long.channel") == begin, "START has its bytes")
+            if process.returncode == -name:
+                early += 1  # before the program began to listen: nothing may have changed
+                check(os.path.exists("i.channel") == (reached > 0), "ended before it began: no END")
+                continue
+            if process.returncode == DONE:
+                late += tries <= 3
+                break
+            stops += 1
+            check(process.returncode == INTERRUPTED, f"status {process.returncode}: {err!r}")
+            check(re.search(rb"interrupted before step [\d,]+ of 3,000.*i.channel: open: [\d,]+ of 3,000 steps "
+                rb"accepted.*i.csv.open: holds the record so far.*to go on: give the same command again\n$", err, re.S),
+                f"interrupted: {err!r}")
+            if reached:
+                check(b"i.channel: is of this run, cut before: goes on after step" in err, f"goes on: {err!r}")
+            end_is_true("i.channel", "interrupted", False)
+            check(reached <= counts(read("i.channel"))[1] < 3000 and not os.path.exists("i.csv"),
+                "END says open, and no record has its name")
+            reached = counts(read("i.channel"))[1]
+            check(whole_record(read("i.csv.open"), f"open: {reached} of 3000 steps accepted"), "the record says open")
+        check(read("i.channel") == end, f"interrupted and gone on with: END has other bytes (after {tries})")
+        check(read("i.csv") == record, "interrupted and gone on with: another record")
+        check(not parts_left(), "nothing is left beside")
+        before = listing()
+        go(*command, tells=r"i.channel: complete: all 3,000 steps accepted \(it was there already\)")
+        check(listing() == before, "a run that is complete writes nothing")
+        forget(*left)
+    check(stops >= wanted, f"only {stops} runs were interrupted on their way")
+    tested.notes.append(f"{where}: interrupted on their way: {stops}; before they listened: {early}; after they were "
+        f"complete: {late}")
+    ignored(options, end, whole)
+
+
+def ignored(options, end, whole):
+    """`whole` is how long a run takes, s."""
+    group("signals that are ignored stay ignored")
+    process = start("run", "long.channel", "-o", "h.channel", *options, "--record", "h.csv",
+        preexec_fn=lambda: signal.signal(signal.SIGHUP, signal.SIG_IGN))
+    time.sleep(whole / 3)
+    process.send_signal(signal.SIGHUP)
+    process.communicate(timeout=60)
+    check(process.returncode == DONE and read("h.channel") == end, "a run under nohup goes on")
+    forget(*saved("h.channel"), "h.csv")
+
+
+def power_cut(draw, head):
+    """What a power cut may do to a killed run's open record: bytes that were not flushed are lost, or read as zeros."""
+    if not os.path.exists("k.csv.open"):
+        return
+    flushed = len(head) if len(read("k.csv.open")) >= len(head) else 0
+    for name in ("k.check.run", "k.channel.run"):
+        for length in re.findall(r"of (\d+) bytes", read(name).decode() if os.path.exists(name) else ""):
+            flushed = max(flushed, int(length))
+    data = read("k.csv.open")
+    if flushed < len(data):
+        place = draw.randrange(flushed, len(data) + 1)
+        write("k.csv.open", data[:place] + (bytes(len(data) - place) if draw.random() < 0.5 else b""))
+
+
+def kills(options, begin, end, record, wanted, every, where):
+    group(f"kills at random moments, then the same command again, {where}")
+    draw = random.Random(tested.seed + 2)
+    head = b"".join(record.splitlines(True)[:5])
+    command = ("run", "long.channel", "-o", "k.channel", *options, "--record", "k.csv", "--checkpoint", "k.check",
+        "--checkpoint-every", every)
+    left = ("k.csv", "k.csv.open", *saved("k.channel", "k.check"))
+    began = time.monotonic()
+    go(*command)
+    whole = time.monotonic() - began
+    forget(*left)
+    killed = ends = inside = chains = resumed = cuts = 0
+    while killed < wanted:
+        chains += 1
+        tries, spoilt = 0, None
+        while True:
+            tries += 1
+            process = start(*command, *(("--replace",) if chains % 5 == 4 else ()))
+            if tries <= 5:
+                time.sleep(draw.uniform(0, whole if tries == 1 else whole * 0.8))
+                process.kill()
+            _, err = process.communicate(timeout=60)
+            resumed += b"is of this run, cut before: goes on" in err
+            check(read("long.channel") == begin, "START has its bytes")
+            if process.returncode == DONE:
+                break
+            if not check(process.returncode == -signal.SIGKILL, f"status {process.returncode}: {err!r}"):
+                break
+            killed += 1
+            inside += bool(parts_left())
+            strange = [name for name in parts_left()
+                if not re.fullmatch(r"(k\.channel|k\.csv|k\.csv\.open|k\.check)(\.run)?\.part-\d+-\d+", name)]
+            check(not strange, f"strange names are left: {strange}")
+            forget(*parts_left())
+            if os.path.exists("k.channel"):
+                ends += 1
+                check(read("k.channel") == end and taken("k.channel")[0], "END after a kill is whole and complete")
+            if os.path.exists("k.csv"):
+                check(read("k.csv") == record, "a record with its name is whole")
+            if os.path.exists("k.csv.open"):
+                check(record.startswith(read("k.csv.open")) or read("k.csv.open") == spoilt,
+                    "the open record is the record so far")
+            if os.path.exists("k.check"):
+                data = read("k.check")
+                good = taken("k.check")[0] and counts(data)[1] % every == 0 and counts(data)[1] < 3000
+                check(good, "the checkpoint is whole and says open")
+                known = f"channel {sha(data)} at step {counts(data)[1]}\n" \
+                    f"record {sha(up_to(record, counts(data)[1]))} of".encode()
+                check(known in read("k.check.run"), "what stands beside the checkpoint knows it")
+                if good and os.path.exists("k.csv.open"):
+                    check(read("k.csv.open").startswith(up_to(record, counts(data)[1])),
+                        "the record has come as far as the checkpoint")
+            if draw.random() < 0.5:
+                cuts += 1
+                power_cut(draw, head)
+                spoilt = read("k.csv.open") if os.path.exists("k.csv.open") else None
+        check(read("k.channel") == end, "killed and gone on with: END has other bytes")
+        check(os.path.exists("k.csv") and read("k.csv") == record, "killed and gone on with: another record")
+        before = listing()
+        go(*command, tells=r"k.channel: complete: all 3,000 steps accepted \(it was there already\)")
+        check(listing() == before, "a run that is complete writes nothing")
+        forget(*left)
+    check(resumed > killed // 4, f"only {resumed} runs went on from what was left")
+    tested.notes.append(f"{where}: {killed} kills in {chains} runs, {cuts} of them as power cuts; {resumed} runs went "
+        f"on from a checkpoint or END, {inside} kills while a file was being written, {ends} after END had its name")

@@ -1,0 +1,153 @@
+"""Surveys and counts, as pathpetal make takes or refuses them."""
+import os, random, re, struct
+
+from common import COUNTS, REFUSED, ROWS, USAGE, check, forget, go, group, listing, read, write
+from formats import survey
+
+
+def good_surveys():
+    group("surveys that are taken")
+    write("plain.csv", survey(ROWS))
+    go("make", "plain.csv", "-o", "reference.channel", *COUNTS, tells="30 cells of 1,000 mm, 300 steps of 40 ms wanted")
+    reference = read("reference.channel")
+    cells = struct.unpack_from("<90i", reference, 48)
+    check(list(zip(cells[:30], cells[30:60], cells[60:])) == ROWS, "the file holds the survey's numbers")
+    plain = survey(ROWS)
+    turned = survey([(v, d, "b", h) for d, h, v in ROWS], "velocity_um_s,depth_mm,note,height_um")
+    same = {
+        "CRLF": plain.replace("\n", "\r\n"),
+        "no final newline": plain.rstrip("\n"),
+        "CRLF without the last": plain.replace("\n", "\r\n").rstrip("\r\n"),
+        "comments and blank lines": "# a\n\n  # b, \"c\n" + plain.replace("\n", "\n\n# d\n  \n,,\n"),
+        "quoted fields": re.sub(r"(-?\d+)", r'"\1"', plain),
+        "quoted names": plain.replace("depth_mm", '"depth_mm"'),
+        "spaces": plain.replace(",", " ,\t"),
+        "capitals": plain.replace("depth_mm", "Depth_MM"),
+        "columns in another order, one not used": turned,
+        "plus signs": re.sub(r"\n(\d)", r"\n+\1", plain),
+        "leading zeros": re.sub(r"\n(\d)", r"\n000000000000000000000000\1", plain),
+        "a byte-order mark": b"\xef\xbb\xbf" + plain.encode(),
+        "Excel's first line": "sep=,\n" + plain,
+        "Excel's first line in quotes, after a byte-order mark": b"\xef\xbb\xbf\"Sep=,\"\r\n" + plain.encode(),
+        "empty for 0": plain.replace(",0,", ",,").replace(",0\n", ",\n"),
+        "counted cells": survey([(j + 1, *row) for j, row in enumerate(ROWS)], "cell,depth_mm,height_um,velocity_um_s"),
+    }
+    for name, text in same.items():
+        write("same.csv", text)
+        out, _ = go("make", "same.csv", "-o", "same.channel", *COUNTS, "--replace", name=name)
+        check(os.path.exists("same.channel") and read("same.channel") == reference, f"{name}: other bytes")
+        if "another order" in name:
+            check("not used: 'note'" in out, "a column that is not used is named")
+        forget("same.channel")
+    write("some.csv", survey([(d,) for d, _, _ in ROWS], "depth_mm"))
+    go("make", "some.csv", "-o", "some.channel", *COUNTS, tells="no column height_um.*no column velocity_um_s")
+    check(struct.unpack_from("<60i", read("some.channel"), 48 + 120) == (0,) * 60, "heights and velocities are 0")
+    for rows in (8, 256):
+        write("edge.csv", survey([(1000,)] * rows, "depth_mm"))
+        go("make", "edge.csv", "-o", "edge.channel", *COUNTS, "--replace")
+        check(len(read("edge.channel")) == 24 + 64 * rows, f"{rows} rows")
+
+
+def bad_surveys():
+    group("surveys and counts that are refused")
+    lines = survey(ROWS).splitlines()
+
+    def with_line(number, text):
+        return "\n".join(lines[:number - 1] + [text] + lines[number:]) + "\n"
+
+    bad = {
+        "a missing column": (survey([row[1:] for row in ROWS], "height_um,velocity_um_s"),
+            "line 1: has no column depth_mm"),
+        "a word for a number": (with_line(7, "deep,0,0"),
+            r"line 7, column 1 \(depth_mm\): 'deep' is not a whole number"),
+        "a word after comments": ("# one\n\n" + with_line(7, "900,x1,0"), r"line 9, column 2 \(height_um\): 'x1'"),
+        "a word with CRLF": (with_line(7, "900,0,fast").replace("\n", "\r\n"),
+            r"line 7, column 3 \(velocity_um_s\): 'fast'"),
+        "a decimal number": (with_line(3, "900.5,0,0"), r"line 3, column 1 .*'900.5' is not a whole number"),
+        "a number with thousands": (with_line(3, '"1,900",0,0'), r"line 3, column 1 .*'1,900' is not a whole number"),
+        "an exponent": (with_line(3, "1e3,0,0"), "line 3, column 1 .*'1e3' is not a whole number"),
+        "a sign alone": (with_line(3, "900,-,0"), "line 3, column 2 .*'-' is not a whole number"),
+        "two signs": (with_line(3, "900,--5,0"), "line 3, column 2 .*'--5' is not a whole number"),
+        "an empty depth": (with_line(31, ",5,5"), r"line 31, column 1 \(depth_mm\): is empty"),
+        "depth 0": (with_line(3, "0,0,0"), "line 3, column 1 .*0 is outside 1 to 20,000"),
+        "depth 20,001": (with_line(3, "20001,0,0"), "line 3, column 1 .*20001 is outside"),
+        "height far too large": (with_line(3, "900,99999999999999999999999,0"),
+            "line 3, column 2 .*outside -20,000,000 to 20,000,000"),
+        "height too low": (with_line(3, "900,-20000001,0"), "line 3, column 2 .*outside"),
+        "velocity of 2^32 + 5": (with_line(3, "900,0,4294967301"), "line 3, column 3 .*outside"),
+        "velocity of 2^64 + 5": (with_line(3, "900,0,18446744073709551621"), "line 3, column 3 .*outside"),
+        "too few fields": (with_line(12, "900,0"), "line 12: has 2 fields where the column names are 3"),
+        "too many fields": (with_line(12, "900,0,0,0"), "line 12: has 4 fields"),
+        "257 rows": (survey([(1000,)] * 257, "depth_mm"), "line 258: is row 257; a channel has 8 to 256 cells"),
+        "7 rows": (survey([(1000,)] * 7, "depth_mm"), "has 7 rows; a channel has 8 to 256 cells"),
+        "no rows": ("depth_mm\n", "has 0 rows"),
+        "an empty file": ("", "is empty"),
+        "only comments": ("# nothing\n\n", "is empty"),
+        "a column twice": (survey([row + (1,) for row in ROWS], "depth_mm,height_um,velocity_um_s,Depth_mm"),
+            "line 1, column 4 .*stands over column 1"),
+        "depth in another unit": (survey(ROWS, "depth_m,height_um,velocity_um_s"),
+            r"line 1, column 1 \(depth_m\): is not a name"),
+        "a misspelt column": (survey(ROWS, "depth_mm,heigth_um,velocity_um_s"),
+            r"line 1, column 2 \(heigth_um\): is not a name"),
+        "semicolons": (survey(ROWS).replace(",", ";"), "line 1: columns are parted by ';'"),
+        "a quote not closed": (with_line(5, '"900,0,0'), "line 5, column 1 .*quote is not closed"),
+        "words after a quote": (with_line(5, '"900"x,0,0'), "line 5, column 1 .*after the closing quote"),
+        "a zero byte": (with_line(5, "9\x000,0,0"), "zero byte"),
+        "UTF-16": (survey(ROWS).encode("utf-16"), "zero byte"),
+        "old line ends": (survey(ROWS).replace("\n", "\r"), "carriage return"),
+        "a lost row": (survey([(j + 1 + (j > 4), *row) for j, row in enumerate(ROWS)],
+            "cell,depth_mm,height_um,velocity_um_s"), "line 7, column 1 .*is 7 where cell 6 must follow"),
+        "bytes at random": (random.Random(5).randbytes(3000), "pathpetal: bad.csv"),
+        "a long word": (with_line(3, "z" * 100000 + ",0,0"), r"'z+\.\.\.' is not a whole number"),
+        "a dry cell": (with_line(6, "900,-899001,0"),
+            "refused, number 4: .*less than 1 mm.*line 6, cell 5: depth 900 mm with height -899,001 um.*to mend: .*"
+            "nothing is written"),
+        "a steep bottom": (survey([(1942,)] * 4 + [(1000,)] + [(1942,)] * 4, "depth_mm"),
+            "refused, number 5: .*too steep.*line 6, cell 5: the first that is too steep.*to mend: take wider cells.*"
+            "nothing is written"),
+        "water too fast": (survey([(20000, 0, 20000000 * (-1) ** j) for j in range(8)]),
+            "refused, number 7: .*faster than 20 m/s.*to mend"),
+    }
+    for name, (text, words) in bad.items():
+        write("bad.csv", text)
+        before = listing()
+        go("make", "bad.csv", "-o", "bad.channel", *COUNTS, status=REFUSED, says=words, name=name)
+        check(listing() == before, f"{name}: something was written or changed")
+    go("make", "absent.csv", "-o", "bad.channel", *COUNTS, status=REFUSED,
+        says="absent.csv: cannot be read: No such file")
+    go("make", "/", "-o", "bad.channel", *COUNTS, status=REFUSED, says="/: cannot be read: Is a directory")
+    write("ok.csv", survey(ROWS))
+    before = listing()
+    for option, value, status, words in [("--width-mm", "9", REFUSED, "--width-mm 9: must be 10 to 5,000"),
+                                         ("--width-mm", "5001", REFUSED, "must be 10 to 5,000"),
+                                         ("--step-ms", "0", REFUSED, "--step-ms 0: must be 1 to 100"),
+                                         ("--step-ms", "101", REFUSED, "must be 1 to 100"),
+                                         ("--steps", "0", REFUSED, "--steps 0: must be 1 to 1,000,000"),
+                                         ("--steps", "1000001", REFUSED, "must be 1 to 1,000,000"),
+                                         ("--steps", "-5", REFUSED, "must be 1 to 1,000,000"),
+                                         ("--steps", "9" * 40, REFUSED, "must be 1 to 1,000,000"),
+                                         ("--steps", "many", USAGE, "'many': is not a whole number"),
+                                         ("--steps", "", USAGE, "--steps needs N"),
+                                         ("--steps", None, USAGE, "--steps is missing")]:
+        words_given = dict(zip(COUNTS[::2], map(str, COUNTS[1::2])))
+        words_given[option] = value
+        line = [word for pair in words_given.items() if pair[1] is not None for word in pair]
+        go("make", "ok.csv", "-o", "bad.channel", *line, status=status, says=words)
+    for line, words in [(("make", "ok.csv", *COUNTS), "-o START is missing"),
+                        (("make", "-o", "bad.channel", *COUNTS), "file name is missing"),
+                        (("make", "ok.csv", "two.csv", "-o", "bad.channel", *COUNTS), "one name too many"),
+                        (("make", "ok.csv", "-o", "bad.channel", *COUNTS, "--steps", 5), "--steps is given twice"),
+                        (("make", "ok.csv", "-o", "bad.channel", *COUNTS, "--fast"), "'--fast' is no option"),
+                        (("make", "ok.csv", *COUNTS, "-o"), "-o needs START"),
+                        (("make", "ok.csv", "-o", "b", *COUNTS, "--replace=5"), "takes no value"),
+                        (("mak",), "'mak' is no command"), ((), "the commands are")]:
+        go(*line, status=USAGE, says=words)
+    check(listing() == before, "a refused make wrote something")
+    go("make", "ok.csv", "-o", "ok.channel", *COUNTS)
+    kept = read("ok.channel")
+    go("make", "ok.csv", "-o", "ok.channel", "--width-mm", 900, "--step-ms", 40, "--steps", 7, status=REFUSED,
+        says="is there already and is not written over")
+    check(read("ok.channel") == kept, "a START that was there is not written over")
+    go("make", "ok.csv", "-o", "ok.csv", *COUNTS, "--replace", status=REFUSED,
+        says="SURVEY and START are the same file")
+    check(read("ok.csv").decode() == survey(ROWS), "the survey keeps its bytes")

@@ -1,0 +1,22 @@
+/* Every call of the interface, from C++: a channel is made, checked, stepped, filtered and run to its end. */
+#include "../../include/pathpetal.h"
+
+int main()
+{
+    uint8_t depths[32], still[32], file[536];
+    for (unsigned j = 0; j < 32; j++) {
+        depths[j] = j % 4 == 0 ? 200 : 0; /* 200 mm */
+        still[j] = 0;
+    }
+    bool good = pathpetal_make(8, 1000, 20, 3, depths, 32, still, 32, still, 32, file, pathpetal_length(8)) == 0 &&
+                pathpetal_check(file, sizeof file) == PATHPETAL_DONE &&
+                pathpetal_number(pathpetal_step(file, sizeof file, still, 32)) == 0 &&
+                pathpetal_filter(file, sizeof file) == 0 &&
+                pathpetal_number(pathpetal_run(file, sizeof file, 1)) == PATHPETAL_MORE && !pathpetal_complete(file) &&
+                pathpetal_count(pathpetal_run(file, sizeof file, 100)) == 1 && pathpetal_complete(file) &&
+                pathpetal_stage(pathpetal_run(file, sizeof file, 1)) == 0 && pathpetal_cells(file) == 8 &&
+                pathpetal_width_mm(file) == 1000 && pathpetal_step_ms(file) == 20 && pathpetal_accepted(file) == 3 &&
+                pathpetal_wanted(file) == 3 && pathpetal_depth_mm(file, 7) == 200 &&
+                pathpetal_height_um(file, 7) == 0 && pathpetal_velocity_um_s(file, 7) == 0;
+    return good ? 0 : 1;
+}

@@ -1,0 +1,991 @@
+/* The C interface of include/pathpetal.h beside the second program: for every call the same answer and the same bytes,
+   and no byte touched outside the strings that were lent.
+   usage: test    prints how often each answer occurred, and last 'N passed, M failed' */
+#define _DEFAULT_SOURCE
+#include "../../include/pathpetal.h"
+#include "expected.h"
+#include "rare.h"
+#include "scenes.h"
+
+#include <inttypes.h>
+#include <signal.h>
+#include <stdio.h>
+#include <string.h>
+#include <sys/mman.h>
+#include <unistd.h>
+
+enum kind { CHECK, STEP, FILTER, RUN, MAKE, KINDS };
+static const char *const names[KINDS] = {"check", "step", "filter", "run", "make"};
+
+enum { BYTES, POURED, DEPTHS, HEIGHTS, VELOCITIES, STRINGS };
+enum { ROOM = 40000, HEAD = 48, CANARIES = 64, ARENA = 65536 };
+
+/* A byte string, in room enough for any length that is tried. */
+struct string {
+    size_t len;
+    uint8_t at[ROOM];
+};
+
+/* A call's whole input. */
+struct call {
+    uint64_t cells, width, step, wanted; /* of make */
+    uint64_t most;                       /* of run */
+    struct string string[STRINGS];       /* the file, step's poured row, make's rows */
+};
+
+static bool takes(enum kind kind, int i)
+{
+    return i == BYTES || (kind == STEP && i == POURED) || (kind == MAKE && i >= DEPTHS);
+}
+
+struct interface {
+    uint64_t (*make)(uint64_t, uint64_t, uint64_t, uint64_t, const uint8_t *, size_t, const uint8_t *, size_t,
+                     const uint8_t *, size_t, uint8_t *, size_t);
+    uint64_t (*check)(const uint8_t *, size_t);
+    uint64_t (*step)(uint8_t *, size_t, const uint8_t *, size_t);
+    uint64_t (*filter)(uint8_t *, size_t);
+    uint64_t (*run)(uint8_t *, size_t, uint64_t);
+};
+static const struct interface library = {pathpetal_make, pathpetal_check, pathpetal_step, pathpetal_filter,
+                                         pathpetal_run};
+static const struct interface second = {expected_make, expected_check, expected_step, expected_filter, expected_run};
+
+#define LENT(i) at[i], c->string[i].len
+
+static uint64_t done_by(const struct interface *by, enum kind kind, const struct call *c, uint8_t *const at[STRINGS])
+{
+    switch (kind) {
+    case CHECK: return by->check(LENT(BYTES));
+    case STEP: return by->step(LENT(BYTES), LENT(POURED));
+    case FILTER: return by->filter(LENT(BYTES));
+    case RUN: return by->run(LENT(BYTES), c->most);
+    default: return by->make(c->cells, c->width, c->step, c->wanted, LENT(DEPTHS), LENT(HEIGHTS), LENT(VELOCITIES),
+                             LENT(BYTES));
+    }
+}
+
+/* ---- where the strings lie: between two pages that nobody may touch ---- */
+
+static uint8_t *arena[STRINGS];
+
+static void arenas(void)
+{
+    for (int i = 0; i < STRINGS; i++) {
+        uint8_t *at = mmap(NULL, 3 * ARENA, PROT_NONE, MAP_PRIVATE | MAP_ANONYMOUS, -1, 0);
+        if (at == MAP_FAILED || mprotect(at + ARENA, ARENA, PROT_READ | PROT_WRITE)) {
+            puts("no memory\n0 passed, 1 failed");
+            _exit(1);
+        }
+        arena[i] = at + ARENA;
+    }
+}
+
+static void touched(int number)
+{
+    static const char line[] = "a call touched memory that it was not lent\n0 passed, 1 failed\n";
+    (void)number;
+    _exit(write(1, line, sizeof line - 1) < 0 ? 2 : 1);
+}
+
+/* A string put up against the page behind it, against the page before it, or at any address between. */
+static uint8_t *place(int i, const struct string *s)
+{
+    uint8_t *at = arena[i];
+    switch (draw() % 4) {
+    case 0: at += ARENA - s->len; break;
+    case 1: break;
+    default: at += CANARIES + draw() % 32; break;
+    }
+    if (s->len)
+        memcpy(at, s->at, s->len);
+    return s->len == 0 && one_in(2) ? NULL : at;
+}
+
+static uint8_t canary(const uint8_t *at) { return (uint8_t)(((uintptr_t)at * 37) ^ 0xA5); }
+
+/* How many canaries there is room for before and behind a string. */
+static size_t room_before(int i, const uint8_t *at)
+{
+    return at - arena[i] < CANARIES ? (size_t)(at - arena[i]) : CANARIES;
+}
+
+static size_t room_behind(int i, const uint8_t *at, size_t len)
+{
+    return arena[i] + ARENA - (at + len) < CANARIES ? (size_t)(arena[i] + ARENA - (at + len)) : CANARIES;
+}
+
+static void set_canaries(int i, uint8_t *at, size_t len)
+{
+    if (!at)
+        return;
+    size_t before = room_before(i, at), behind = room_behind(i, at, len);
+    for (size_t j = 1; j <= before; j++)
+        *(at - j) = canary(at - j);
+    for (size_t j = 0; j < behind; j++)
+        at[len + j] = canary(at + len + j);
+}
+
+static bool canaries_live(int i, const uint8_t *at, size_t len)
+{
+    bool live = true;
+    if (!at)
+        return true;
+    size_t before = room_before(i, at), behind = room_behind(i, at, len);
+    for (size_t j = 1; j <= before; j++)
+        live = live && *(at - j) == canary(at - j);
+    for (size_t j = 0; j < behind; j++)
+        live = live && at[len + j] == canary(at + len + j);
+    return live;
+}
+
+/* ---- counting ---- */
+
+enum { NUMBERS = 17, PLACES = 12 };
+static long passed, failed, damaged_files, settled[11];
+static long refused_at[KINDS][NUMBERS][PLACES]; /* place 0: before the stages; 1 + k: stage k */
+
+/* What else must occur. */
+enum event { ROW_BESIDE, AMOUNT_BESIDE, COMPLETE_BEFORE, COMPLETED, MORE_AT_ONCE, MORE_LATER, REFUSED_FIRST,
+             REFUSED_LATER, MAKE_CELLS, MAKE_ROW, EVENTS };
+static long events[EVENTS];
+static const char *const event_names[EVENTS] = {
+    "step refused 1 for its poured row alone",   "step refused 3 for its poured row alone",
+    "run of a channel complete before",          "run completed a channel",
+    "run stopped (16) with no step taken",       "run stopped (16) after some steps",
+    "run refused at a stage of its first step",  "run refused at a stage of a later step",
+    "make refused 1 for the number of cells",    "make refused 1 for a row alone"};
+
+static void count(enum kind kind, const struct call *c, uint64_t answer)
+{
+    unsigned number = pathpetal_number(answer), stage = pathpetal_stage(answer), place = 0;
+    uint64_t steps = pathpetal_count(answer);
+    bool taken = kind != CHECK && kind != MAKE && (number == 1 || number == 3 || number == 4) &&
+                 expected_check(c->string[BYTES].at, c->string[BYTES].len) == 0;
+    bool at_stage = (number == 4 && (taken || stage || steps)) || (number >= 6 && number <= 10);
+    if (at_stage)
+        place = 1 + stage;
+    refused_at[kind][number][place]++;
+    if (kind == STEP && number == 0)
+        settled[steps]++;
+    if (kind == STEP && taken && number != 4)
+        events[number == 1 ? ROW_BESIDE : AMOUNT_BESIDE]++;
+    if (kind == MAKE && number == 1)
+        events[c->cells < 8 || c->cells > 256 ? MAKE_CELLS : MAKE_ROW]++;
+    if (kind == RUN && number == 0)
+        events[steps ? COMPLETED : COMPLETE_BEFORE]++;
+    if (kind == RUN && number == PATHPETAL_MORE)
+        events[steps ? MORE_LATER : MORE_AT_ONCE]++;
+    if (kind == RUN && at_stage)
+        events[steps ? REFUSED_LATER : REFUSED_FIRST]++;
+}
+
+static void expect(bool holds, const char *what)
+{
+    if (holds)
+        passed++;
+    else if (failed++ < 20)
+        printf("not so: %s\n", what);
+}
+
+static void tell(enum kind kind, const struct call *c, uint64_t a, uint64_t b, const char *what, size_t at)
+{
+    printf("%s differs in %s at %zu: library %u %u %" PRIu64 ", second %u %u %" PRIu64 "; file of %zu bytes:",
+           names[kind], what, at, pathpetal_number(a), pathpetal_stage(a), pathpetal_count(a), pathpetal_number(b),
+           pathpetal_stage(b), pathpetal_count(b), c->string[BYTES].len);
+    if (kind == MAKE)
+        printf(" cells %" PRIu64 " width %" PRIu64 " step %" PRIu64 " wanted %" PRIu64 ", rows of %zu %zu %zu bytes\n",
+               c->cells, c->width, c->step, c->wanted, c->string[DEPTHS].len, c->string[HEIGHTS].len,
+               c->string[VELOCITIES].len);
+    else {
+        for (size_t i = 0; i < 12 && c->string[BYTES].len >= HEAD; i++)
+            printf(" %" PRIu32, pathpetal_word(c->string[BYTES].at + 4 * i));
+        printf(kind == STEP ? ", %zu poured bytes\n" : "\n", c->string[POURED].len);
+    }
+}
+
+/* Both do the call; c's file is then what the second program left. */
+static uint64_t compare(enum kind kind, struct call *c)
+{
+    static uint8_t theirs[ROOM];
+    uint8_t *at[STRINGS] = {NULL}, *lent[STRINGS];
+    const char *what = NULL;
+    size_t where = 0;
+    for (int i = 0; i < STRINGS; i++)
+        lent[i] = c->string[i].at;
+    lent[BYTES] = theirs;
+    memcpy(theirs, c->string[BYTES].at, c->string[BYTES].len);
+    uint64_t b = done_by(&second, kind, c, lent);
+    for (int i = 0; i < STRINGS; i++)
+        if (takes(kind, i)) {
+            at[i] = place(i, &c->string[i]);
+            set_canaries(i, at[i], c->string[i].len);
+        }
+    uint64_t a = done_by(&library, kind, c, at);
+    if (a != b)
+        what = "its answer";
+    for (int i = 0; i < STRINGS; i++)
+        if (takes(kind, i)) {
+            for (size_t j = 0; !what && at[i] && j < c->string[i].len; j++)
+                if (at[i][j] != lent[i][j])
+                    what = i == BYTES ? "the file's byte" : "a byte that it only reads", where = j;
+            if (!canaries_live(i, at[i], c->string[i].len))
+                what = "a byte beside what it was lent, string", where = (size_t)i;
+        }
+    if (!what)
+        passed++;
+    else if (failed++ < 20)
+        tell(kind, c, a, b, what, where);
+    count(kind, c, b);
+    memcpy(c->string[BYTES].at, theirs, c->string[BYTES].len);
+    return b;
+}
+
+/* ---- bytes ---- */
+
+static void put(uint8_t *at, uint64_t n, unsigned bytes)
+{
+    for (unsigned i = 0; i < bytes; i++)
+        at[i] = (uint8_t)(n >> 8 * i);
+}
+
+static void put_row(struct string *s, const int32_t *row, size_t cells)
+{
+    s->len = 4 * cells;
+    for (size_t j = 0; j < cells; j++)
+        put(s->at + 4 * j, (uint32_t)row[j], 4);
+}
+
+static uint32_t word(const struct call *c, int i) { return pathpetal_word(c->string[BYTES].at + 4 * i); }
+static void set_word(struct call *c, int i, uint64_t n) { put(c->string[BYTES].at + 4 * i, n, 4); }
+
+enum { EDITION, CELLS, WIDTH, STEP_MS, ACCEPTED, WANTED, OFFSETS };
+
+/* The six rows of a file of n cells: where they start, the bytes of an entry, how many there are, and their range. */
+enum { ROW_h, ROW_e, ROW_u, ROW_V, ROW_Q, ROW_F, ROWS };
+static const int64_t row_least[ROWS] = {1, -20000000, -20000000, -2000000000, -1000000000000000, -100000000000};
+static const int64_t row_most[ROWS] = {20000, 20000000, 20000000, 2000000000, 1000000000000000, 100000000000};
+static size_t row_start(int row, size_t n)
+{
+    return row < ROW_F ? HEAD + 4 * n * (size_t)row : 24 + 40 * n;
+}
+static unsigned row_bytes(int row) { return row < ROW_Q ? 4 : 8; }
+static size_t row_len(int row, size_t n) { return row == ROW_Q ? 3 * (n - 1) : row == ROW_F ? 3 * n : n; }
+
+static void set_entry(struct call *c, size_t n, int row, size_t j, int64_t value)
+{
+    put(c->string[BYTES].at + row_start(row, n) + row_bytes(row) * j, (uint64_t)value, row_bytes(row));
+}
+
+static int64_t depth(const struct call *c, size_t n, size_t j)
+{
+    return pathpetal_signed(c->string[BYTES].at + row_start(ROW_h, n) + 4 * j);
+}
+
+/* Another file in place of the one that is there. */
+static void set_file(struct call *c, const struct call *from)
+{
+    c->string[BYTES].len = from->string[BYTES].len;
+    memcpy(c->string[BYTES].at, from->string[BYTES].at, from->string[BYTES].len);
+    c->string[POURED].len = from->string[POURED].len;
+    memcpy(c->string[POURED].at, from->string[POURED].at, from->string[POURED].len);
+}
+
+/* make's input, the poured row and a buffer of the right length with anything in it. */
+static void set_scene(struct call *c, const struct scene *s)
+{
+    size_t n = (size_t)s->cells;
+    c->cells = n, c->width = s->width, c->step = s->step, c->wanted = s->wanted;
+    put_row(&c->string[DEPTHS], s->depths, n);
+    put_row(&c->string[HEIGHTS], s->heights, n);
+    put_row(&c->string[VELOCITIES], s->velocities, n);
+    put_row(&c->string[POURED], s->poured, n);
+    c->string[BYTES].len = 24 + 64 * n;
+    for (size_t j = 0; j < c->string[BYTES].len; j += 8)
+        put(c->string[BYTES].at + j, draw(), 8);
+}
+
+/* A channel that was made, stepped and filtered a little. */
+static void a_channel(struct call *c, size_t n)
+{
+    static struct scene s;
+    do {
+        if (one_in(3))
+            wild(&s, n);
+        else
+            calm(&s, n);
+        s.wanted = s.wanted % 40 + 6;
+        set_scene(c, &s);
+    } while (compare(MAKE, c));
+    for (uint64_t k = draw() % 4; k > 0; k--)
+        compare(one_in(4) ? FILTER : STEP, c);
+}
+
+static size_t few_cells(void) { return one_in(60) ? (size_t)between(8, 256) : (size_t)between(8, 12); }
+
+/* V and levels of any size, that need not belong to the heights. */
+static void any_levels(struct call *c, size_t n)
+{
+    for (int row = ROW_V; row <= ROW_F; row++) {
+        int64_t size = magnitude(row_most[row] / 1000);
+        size *= PICK(1, 30, 1000);
+        for (size_t j = 0; j < row_len(row, n); j++)
+            set_entry(c, n, row, j, between(-size, size));
+    }
+}
+
+/* A file of 8 cells whose first prediction leaves V as it is, with every u a half in exact arithmetic: the depth is 4
+   widths, and each second difference of u, mirrored at the walls, an odd number of 62,500. */
+static void velocity_halves(struct call *c)
+{
+    static const int64_t sixteenths[8] = {1, 5, -3, -7, -7, -3, 5, 1};
+    static struct scene s;
+    int64_t twice[10], sign = PICK(1, -1); /* 2u, with a mirrored cell at each end */
+    calm(&s, 8);
+    set_scene(c, &s);
+    compare(MAKE, c);
+    set_word(c, WIDTH, 4000);
+    set_word(c, STEP_MS, 1);
+    for (int j = 0; j < 8; j++, sign = -sign)
+        twice[j + 1] = sign * 15625 * (16 * PICK(0, 0, 0, 1, -1) + sixteenths[j]);
+    twice[0] = -twice[1];
+    twice[9] = -twice[8];
+    for (size_t j = 0; j < 8; j++) {
+        int64_t second_difference = (twice[j] - 2 * twice[j + 1] + twice[j + 2]) / 2;
+        set_entry(c, 8, ROW_h, j, 16000);
+        set_entry(c, 8, ROW_e, j, 1000000);
+        set_entry(c, 8, ROW_V, j, (twice[j + 1] - 780039 * (second_difference / 62500)) / 2);
+    }
+    for (int row = ROW_Q; row <= ROW_F; row++)
+        for (size_t j = 0; j < row_len(row, 8); j++)
+            set_entry(c, 8, row, j, 0);
+}
+
+/* ---- damaged files ---- */
+
+/* A damaged file: checked, and some of them given to every call that takes a file. */
+static void damaged(struct call *c)
+{
+    static struct call again;
+    damaged_files++;
+    compare(CHECK, c);
+    if (!one_in(5))
+        return;
+    set_file(&again, c);
+    for (enum kind kind = STEP; kind <= RUN; kind++) {
+        again.most = (uint64_t)PICK(0, 1, 3);
+        compare(kind, &again);
+        set_file(&again, c);
+    }
+}
+
+/* Every word of the head at every bound, one off what it is, and at random. */
+static void head_words(const struct call *from)
+{
+    static const uint32_t bounds[] = {0, 1, 2, 3, 7, 8, 9, 10, 11, 47, 48, 49, 99, 100, 101, 255, 256, 257, 4999, 5000,
+                                      5001, 65535, 65536, 999999, 1000000, 1000001, 0x01000000, 0x7FFFFFFF, 0x80000000,
+                                      0x80000001, 0xFFFFFFFE, 0xFFFFFFFF};
+    static struct call c;
+    set_file(&c, from);
+    for (int i = 0; i < 12; i++) {
+        uint32_t was = word(from, i);
+        uint32_t any = (uint32_t)draw(), small = (uint32_t)draw() % 300;
+        const uint32_t near[] = {was - 4, was - 1, was + 1, was + 4, was + 0x100, was + 0x10000, was + 0x1000000,
+                                 was ^ 0x80000000, was << 8, was << 24, any, small};
+        for (size_t k = 0; k < sizeof bounds / sizeof *bounds; k++) {
+            set_word(&c, i, bounds[k]);
+            damaged(&c);
+        }
+        for (size_t k = 0; k < sizeof near / sizeof *near; k++) {
+            set_word(&c, i, near[k]);
+            damaged(&c);
+        }
+        set_word(&c, i, was);
+    }
+    for (int i = OFFSETS; i < 11; i++) {
+        set_word(&c, i, word(from, i + 1));
+        set_word(&c, i + 1, word(from, i));
+        damaged(&c);
+        set_file(&c, from);
+    }
+    for (int off = -1; off <= 1; off++) {
+        set_word(&c, ACCEPTED, word(from, WANTED) + (uint32_t)off);
+        damaged(&c);
+    }
+}
+
+static void lengthened(struct call *c, const struct call *from, size_t len)
+{
+    set_file(c, from);
+    for (size_t j = c->string[BYTES].len; j < len; j++)
+        c->string[BYTES].at[j] = (uint8_t)draw();
+    c->string[BYTES].len = len;
+    damaged(c);
+}
+
+/* Cut short and lengthened: about every border, and to every length if the file is a small one. */
+static void lengths(const struct call *from)
+{
+    static struct call c;
+    size_t n = word(from, CELLS), len = 24 + 64 * n;
+    for (size_t l = 0; l < len && n <= 9; l++)
+        lengthened(&c, from, l);
+    for (size_t l = 0; l < 60; l++)
+        lengthened(&c, from, l), lengthened(&c, from, len + 1 + l);
+    for (int row = 0; row < ROWS; row++)
+        for (size_t l = row_start(row, n) - 9; l <= row_start(row, n) + 9; l++)
+            lengthened(&c, from, l);
+    for (size_t l = len - 70; l < len; l++)
+        lengthened(&c, from, l);
+    for (size_t other = 7; other <= 260; other += n < 64 ? 1 : 20)
+        lengthened(&c, from, 24 + 64 * other);
+    lengthened(&c, from, 2 * len);
+    lengthened(&c, from, ROOM);
+}
+
+/* Values at their bounds, one within and one beyond, in the first and the last cells of each level and in any cell. */
+static void values(const struct call *from)
+{
+    static struct call c;
+    size_t n = word(from, CELLS);
+    set_file(&c, from);
+    for (int row = 0; row < ROWS; row++) {
+        size_t len = row_len(row, n), level = row < ROW_Q ? len : len / 3;
+        const size_t cells[] = {0, 1, level - 1, level % len, 2 * level % len, len - 2, len - 1, draw() % len};
+        int64_t far = row < ROW_Q ? INT32_MAX : INT64_MAX;
+        const int64_t to[] = {row_least[row] - 1, row_least[row], row_least[row] + 1, row_most[row] - 1, row_most[row],
+                              row_most[row] + 1, far, -far - 1, 0, -1, 1, between(-far / 2, far / 2)};
+        for (size_t i = 0; i < sizeof cells / sizeof *cells; i++)
+            for (size_t k = 0; k < sizeof to / sizeof *to; k++) {
+                set_entry(&c, n, row, cells[i], to[k]);
+                damaged(&c);
+                set_file(&c, from);
+            }
+    }
+}
+
+/* 1 mm of water in a cell, less by 1 um, more by 1 um. */
+static void dry_cells(const struct call *from)
+{
+    static struct call c;
+    size_t n = word(from, CELLS);
+    set_file(&c, from);
+    for (size_t j = 0; j < n; j += n > 16 ? 17 : 1)
+        for (int64_t water = 999; water <= 1001; water++) {
+            set_entry(&c, n, ROW_e, j, water - 1000 * depth(from, n, j));
+            damaged(&c);
+            set_file(&c, from);
+        }
+}
+
+/* A bottom that is even but for one cell or one wall cell, about the edge of refusal 5. */
+static void steep(struct call *c, size_t n, size_t cell, int64_t width, int64_t shallow, int64_t left, int64_t right)
+{
+    set_word(c, WIDTH, (uint64_t)width);
+    for (size_t j = 0; j < n; j++) {
+        set_entry(c, n, ROW_h, j, j == cell ? shallow : j < cell ? left : right);
+        set_entry(c, n, ROW_e, j, 0);
+    }
+    damaged(c);
+}
+
+static void steep_bottoms(const struct call *from)
+{
+    static struct call c;
+    size_t n = word(from, CELLS);
+    set_file(&c, from);
+    /* marked case 8, and rows that are equal to their neighbours' sum exactly: these are refused */
+    for (size_t j = 0; j < n; j++)
+        for (int64_t off = -1; off <= 1; off++) {
+            steep(&c, n, j, 1000, 1000, 1941 + off, 1941 + off);
+            steep(&c, n, j, 1000, 1000, 4352 + off, 4352 + off);
+            for (int64_t k = 1; k <= 4; k++)
+                steep(&c, n, j, 177 * k, 1000, 1000 + 29 * k * k + off, 1000 + 30 * k * k);
+            steep(&c, n, j, 177, 1000, 2528 + off, 2528 + off);
+        }
+    for (int i = 0; i < 60; i++) {
+        int64_t width = 10 + magnitude(4990), shallow = 1 + magnitude(9999), low = shallow, high = 20001;
+        size_t cell = draw() % n;
+        while (high - low > 1) {
+            int64_t middle = (low + high) / 2;
+            set_word(&c, WIDTH, (uint64_t)width);
+            for (size_t j = 0; j < n; j++) {
+                set_entry(&c, n, ROW_h, j, j == cell ? shallow : middle);
+                set_entry(&c, n, ROW_e, j, 0);
+            }
+            if (expected_check(c.string[BYTES].at, c.string[BYTES].len))
+                high = middle;
+            else
+                low = middle;
+        }
+        for (int64_t off = -1; off <= 2; off++)
+            steep(&c, n, cell, width, shallow, low + off, low + off);
+        steep(&c, n, cell, width, shallow, low + 1, low);
+        steep(&c, n, cell, width, shallow, low, low + 1);
+    }
+}
+
+/* Bytes changed at random, in the head, in the rows or anywhere. */
+static void random_bytes(const struct call *from)
+{
+    static struct call c;
+    size_t len = from->string[BYTES].len;
+    set_file(&c, from);
+    for (uint64_t k = one_in(2) ? 1 : 1 + draw() % 8; k > 0; k--) {
+        size_t at = one_in(3) ? draw() % HEAD : one_in(2) ? HEAD + draw() % (len - HEAD) : draw() % len;
+        c.string[BYTES].at[at] = one_in(3) ? (uint8_t)draw() : (uint8_t)(c.string[BYTES].at[at] ^ 1u << draw() % 8);
+    }
+    if (one_in(10))
+        c.string[BYTES].len += (size_t)PICK(1, -1, 8, -8, 64, -64);
+    damaged(&c);
+}
+
+/* ---- faults together: the first in the interface's order is the answer ---- */
+
+/* Those of the rows first and those of the head last, so that each finds its place in the file. */
+enum fault { AT_ITS_END, STEEP, DRY, POURED_AMOUNT, VALUE, COUNT, OFFSET, LENGTH, POURED_LENGTH, CELLS_FAULT,
+             EDITION_FAULT, SHORT, FAULTS };
+
+static void wrong_length(struct string *s)
+{
+    size_t was = s->len;
+    const size_t to[] = {0, was - 1, was + 1, was - 4, was + 4, was / 4, was / 2, 2 * was, 4 * was, draw() % 2000};
+    do
+        s->len = to[draw() % (sizeof to / sizeof *to)];
+    while (s->len == was || s->len > ROOM);
+    for (size_t j = was; j < s->len; j++)
+        s->at[j] = 0;
+}
+
+static void damage(struct call *c, size_t n, enum fault fault)
+{
+    size_t j = draw() % n;
+    int row;
+    switch (fault) {
+    case AT_ITS_END: set_word(c, ACCEPTED, word(c, WANTED)); break;
+    case STEEP:
+        j = (size_t)between(1, (int64_t)n - 2);
+        set_entry(c, n, ROW_h, j - 1, 20000), set_entry(c, n, ROW_h, j, 5000), set_entry(c, n, ROW_h, j + 1, 20000);
+        set_entry(c, n, ROW_e, j, 0);
+        break;
+    case DRY: set_entry(c, n, ROW_e, j, 999 - 1000 * depth(c, n, j)); break;
+    case POURED_AMOUNT:
+        put(c->string[POURED].at + 4 * j, (uint64_t)PICK(1000001, -1000001, INT32_MAX, INT32_MIN), 4);
+        break;
+    case VALUE:
+        row = (int)(draw() % ROWS);
+        j = draw() % row_len(row, n);
+        set_entry(c, n, row, j, one_in(2) ? row_most[row] + 1 : row_least[row] - 1);
+        break;
+    case COUNT:
+        switch (draw() % 4) {
+        case 0: set_word(c, WIDTH, (uint64_t)PICK(0, 9, 5001, UINT32_MAX)); break;
+        case 1: set_word(c, STEP_MS, (uint64_t)PICK(0, 101, UINT32_MAX)); break;
+        case 2: set_word(c, WANTED, (uint64_t)PICK(0, 1000001, UINT32_MAX)); break;
+        default: set_word(c, ACCEPTED, word(c, WANTED) + (uint64_t)PICK(1, 2, 1000)); break;
+        }
+        break;
+    case OFFSET: row = OFFSETS + (int)(draw() % ROWS); set_word(c, row, word(c, row) + (uint64_t)PICK(1, -1, 4)); break;
+    case LENGTH: c->string[BYTES].len += (size_t)PICK(1, -1, 64, -64, 8); break;
+    case POURED_LENGTH: wrong_length(&c->string[POURED]); break;
+    case CELLS_FAULT: set_word(c, CELLS, (uint64_t)PICK(0, 7, 257, UINT32_MAX, 1 << 30)); break;
+    case EDITION_FAULT: set_word(c, EDITION, (uint64_t)PICK(0, 2, 3, 257, UINT32_MAX)); break;
+    default: c->string[BYTES].len = draw() % HEAD; break;
+    }
+}
+
+static void to_every_call(struct call *c)
+{
+    static struct call again;
+    set_file(&again, c);
+    for (enum kind kind = CHECK; kind <= RUN; kind++) {
+        again.most = (uint64_t)PICK(0, 1, 2, INT64_MAX);
+        compare(kind, &again);
+        set_file(&again, c);
+    }
+}
+
+/* Each fault, each two, and some threes. */
+static void faults(const struct call *from)
+{
+    static struct call c;
+    size_t n = word(from, CELLS);
+    for (int i = 0; i < FAULTS; i++)
+        for (int j = i; j < FAULTS; j++) {
+            set_file(&c, from);
+            damage(&c, n, (enum fault)i);
+            if (j != i)
+                damage(&c, n, (enum fault)j);
+            damaged_files++;
+            to_every_call(&c);
+            if (one_in(3)) {
+                damage(&c, n, one_in(2) ? POURED_LENGTH : EDITION_FAULT);
+                to_every_call(&c);
+            }
+        }
+}
+
+static void many_damaged_files(void)
+{
+    static struct call base;
+    static const size_t sizes[] = {8, 9, 8, 12, 23, 256};
+    for (size_t i = 0; i < sizeof sizes / sizeof *sizes; i++) {
+        a_channel(&base, sizes[i]);
+        head_words(&base);
+        lengths(&base);
+        values(&base);
+        dry_cells(&base);
+        if (sizes[i] < 256)
+            steep_bottoms(&base);
+    }
+    for (int i = 0; i < 900; i++) {
+        a_channel(&base, few_cells());
+        for (int k = 0; k < 10; k++)
+            random_bytes(&base);
+        if (i % 30 == 0)
+            faults(&base);
+    }
+    /* every number of cells */
+    for (size_t n = 8; n <= 256; n += n < 40 || n > 250 ? 1 : 7) {
+        static struct scene s;
+        calm(&s, n);
+        set_scene(&base, &s);
+        compare(MAKE, &base);
+        to_every_call(&base);
+    }
+}
+
+/* ---- make ---- */
+
+static void spoil_make(struct call *c)
+{
+    static const uint64_t counts[] = {0, 1, 7, 8, 9, 10, 11, 99, 100, 101, 255, 256, 257, 4999, 5000, 5001, 999999,
+                                      1000000, 1000001, UINT32_MAX, 1ull << 32, INT64_MAX, UINT64_MAX};
+    uint64_t any = counts[draw() % (sizeof counts / sizeof *counts)];
+    uint64_t over = 1ull << PICK(32, 33, 58, 62, 63); /* what is lost if a product or a number is cut short */
+    int i = DEPTHS + (int)(draw() % 3), row = i - DEPTHS;
+    size_t n = c->string[i].len / 4, j = n ? PICK(0, (int64_t)n - 1, (int64_t)(draw() % n)) : 0;
+    switch (draw() % 12) {
+    case 0: c->cells = any; break;
+    case 1: c->cells += over; break;
+    case 2: c->cells += (uint64_t)PICK(1, -1); break;
+    case 3: c->width = one_in(3) ? c->width + over : any; break;
+    case 4: c->step = one_in(3) ? c->step + over : any; break;
+    case 5: c->wanted = one_in(3) ? c->wanted + over : any; break;
+    case 6: wrong_length(&c->string[i]); break;
+    case 7: wrong_length(&c->string[BYTES]); break;
+    case 8:
+        if (n && c->string[HEIGHTS].len == c->string[DEPTHS].len) /* at the edge of a dry cell */
+            put(c->string[HEIGHTS].at + 4 * j,
+                (uint64_t)(PICK(999, 1000) - 1000 * (int64_t)pathpetal_signed(c->string[DEPTHS].at + 4 * j)), 4);
+        break;
+    case 9:
+        if (n) /* a step of the bottom */
+            put(c->string[DEPTHS].at + 4 * (j % (c->string[DEPTHS].len / 4 + 1)), (uint64_t)between(1, 20000), 4);
+        break;
+    default:
+        if (n)
+            put(c->string[i].at + 4 * j,
+                (uint64_t)PICK(row_least[row] - 1, row_least[row], row_most[row], row_most[row] + 1, INT32_MIN,
+                               INT32_MAX, 0, -1, 1), 4);
+        break;
+    }
+}
+
+static void makes(void)
+{
+    static struct call c;
+    static struct scene s;
+    for (int i = 0; i < 6000; i++) {
+        size_t n = few_cells();
+        if (one_in(4))
+            deep(&s, n);
+        else
+            wild(&s, n);
+        set_scene(&c, &s);
+        for (uint64_t k = draw() % 4; k > 0; k--)
+            spoil_make(&c);
+        compare(MAKE, &c);
+    }
+    for (int i = 0; i < 300; i++) {
+        if (one_in(2))
+            reduced_halves(&s, few_cells());
+        else
+            flux_halves(&s, few_cells());
+        set_scene(&c, &s);
+        compare(MAKE, &c);
+    }
+}
+
+/* ---- steps, filters and runs ---- */
+
+/* Some calls in a row on the file that is there. */
+static void go_on(struct call *c)
+{
+    size_t n = word(c, CELLS);
+    for (int i = 0; i < 5; i++) {
+        enum kind kind = one_in(5) ? FILTER : one_in(6) ? RUN : STEP;
+        uint32_t left = word(c, WANTED) - word(c, ACCEPTED);
+        c->most = (uint64_t)PICK(0, 1, 2, 5, (int64_t)left, (int64_t)left - 1, (int64_t)left + 1);
+        if (left < 40 && one_in(3))
+            c->most = (uint64_t)PICK(INT64_MAX, -1, 1ll << 32);
+        if (c->most > 20 && left > 40)
+            c->most = 3;
+        size_t was = c->string[POURED].len;
+        if (one_in(12))
+            damage(c, n, one_in(2) ? POURED_AMOUNT : POURED_LENGTH);
+        else if (one_in(4))
+            memset(c->string[POURED].at, 0, was);
+        uint64_t answer = compare(kind, c);
+        c->string[POURED].len = was;
+        if (pathpetal_number(answer) && pathpetal_number(answer) != PATHPETAL_MORE && one_in(2))
+            break;
+    }
+}
+
+static void channels(void)
+{
+    static struct call c;
+    static struct scene s;
+    for (int i = 0; i < 2000; i++) {
+        size_t n = few_cells();
+        switch (draw() % 8) {
+        case 0: case 1: violent(&s, n); break;
+        case 2: case 3: wild(&s, n); break;
+        case 4: deep(&s, n); break;
+        default: calm(&s, n); break;
+        }
+        set_scene(&c, &s);
+        if (compare(MAKE, &c))
+            continue;
+        if (one_in(4))
+            any_levels(&c, n);
+        go_on(&c);
+    }
+    for (int i = 0; i < 200; i++) {
+        velocity_halves(&c);
+        compare(STEP, &c);
+    }
+}
+
+static void rare_channels(void)
+{
+    static const enum kind kinds[] = {[RARE_STEP] = STEP, [RARE_RUN] = RUN, [RARE_FILTER] = FILTER};
+    static struct call c;
+    static struct scene s;
+    for (size_t i = 0; i < sizeof rares / sizeof *rares; i++) {
+        const struct rare *r = &rares[i];
+        uint64_t answer = 0;
+        seed(r->from);
+        size_t n = (size_t)between(8, 12);
+        r->scene(&s, n);
+        for (size_t j = 0; j < n; j++)
+            s.velocities[j] = (int32_t)(s.velocities[j] * r->millionths / 1000000);
+        set_scene(&c, &s);
+        compare(MAKE, &c);
+        c.most = 40;
+        for (int k = 0; k < 3 && pathpetal_number(answer) == 0; k++)
+            answer = compare(kinds[r->call], &c);
+        expect(pathpetal_number(answer) == r->number && pathpetal_stage(answer) == r->stage,
+               "a rare refusal is met where it was found");
+    }
+}
+
+/* ---- calls with numbers known beforehand ---- */
+
+static void even(struct call *c, size_t n, int32_t deep, int32_t high, uint64_t wanted)
+{
+    static struct scene s;
+    s.cells = n, s.width = 1000, s.step = 20, s.wanted = wanted;
+    for (size_t j = 0; j < n; j++)
+        s.depths[j] = deep, s.heights[j] = high, s.velocities[j] = 0, s.poured[j] = 0;
+    set_scene(c, &s);
+}
+
+static int64_t heights(const struct call *c)
+{
+    int64_t sum = 0;
+    for (size_t j = 0; j < pathpetal_cells(c->string[BYTES].at); j++)
+        sum += pathpetal_height_um(c->string[BYTES].at, j);
+    return sum;
+}
+
+static bool is(uint64_t answer, unsigned number, unsigned stage, uint64_t steps)
+{
+    return pathpetal_number(answer) == number && pathpetal_stage(answer) == stage && pathpetal_count(answer) == steps;
+}
+
+static void known(void)
+{
+    static struct call c;
+    static const int32_t filtered[16] = {0, 0, 0, -1, 8, -28, 56, 186, 56, -28, 8, -1, 0, 0, 0, 0};
+    uint8_t *file = c.string[BYTES].at;
+    bool same = true;
+    even(&c, 8, 1000, 7, 10);
+    expect(is(compare(MAKE, &c), 0, 0, 0), "a channel of still water is made");
+    expect(c.string[BYTES].len == pathpetal_length(8) && pathpetal_length(8) == 536, "8 cells are 536 bytes");
+    expect(pathpetal_cells(file) == 8 && pathpetal_width_mm(file) == 1000 && pathpetal_step_ms(file) == 20 &&
+           pathpetal_accepted(file) == 0 && pathpetal_wanted(file) == 10, "the file's counts are those given");
+    expect(pathpetal_depth_mm(file, 7) == 1000 && pathpetal_height_um(file, 7) == 7 &&
+           pathpetal_velocity_um_s(file, 7) == 0, "the file's rows are those given");
+    expect(!pathpetal_complete(file) && heights(&c) == 56, "open, heights 56");
+    expect(is(compare(CHECK, &c), 0, 0, 0), "its file is one");
+    expect(is(compare(STEP, &c), 0, 0, 1), "still water settles at the first correction");
+    c.most = 4;
+    expect(is(compare(RUN, &c), PATHPETAL_MORE, 0, 4) && pathpetal_accepted(file) == 5, "4 steps, more to do");
+    put(c.string[POURED].at, 1000, 4);
+    put(c.string[POURED].at + 28, (uint64_t)-300, 4);
+    expect(pathpetal_number(compare(STEP, &c)) == 0 && pathpetal_accepted(file) == 6, "a step with water poured in");
+    expect(heights(&c) == 756, "what was poured in is there");
+    expect(is(compare(FILTER, &c), 0, 0, 0) && heights(&c) == 756, "a filter pass moves no water in or out");
+    c.most = UINT64_MAX;
+    expect(is(compare(RUN, &c), 0, 0, 4) && pathpetal_complete(file), "the rest of the run: complete");
+    expect(is(compare(STEP, &c), PATHPETAL_COMPLETE, 0, 0), "no step after that");
+    expect(is(compare(FILTER, &c), PATHPETAL_COMPLETE, 0, 0), "no filter pass after that");
+    expect(is(compare(RUN, &c), 0, 0, 0), "a run of a complete channel takes no step");
+    expect(is(compare(CHECK, &c), 0, 0, 0) && heights(&c) == 756, "a complete channel is a channel");
+    for (int32_t d = 1941; d <= 1942; d++) {
+        even(&c, 9, d, 0, 10);
+        put(c.string[DEPTHS].at + 16, 1000, 4);
+        expect(is(compare(MAKE, &c), d == 1941 ? 0 : PATHPETAL_DOMINANCE, 0, 0), "marked case 8");
+    }
+    even(&c, 16, 1000, 0, 10);
+    put(c.string[HEIGHTS].at + 28, 256, 4);
+    expect(is(compare(MAKE, &c), 0, 0, 0) && is(compare(FILTER, &c), 0, 0, 0), "marked case 10 is filtered");
+    for (size_t j = 0; j < 16; j++)
+        same = same && pathpetal_height_um(file, j) == filtered[j];
+    expect(same, "marked case 10");
+    expect(pathpetal_signed((const uint8_t *)"\xff\xff\xff\xff") == -1 &&
+           pathpetal_signed((const uint8_t *)"\0\0\0\x80") == INT32_MIN, "signed numbers are read as such");
+}
+
+/* Strings of no bytes, lent as NULL. */
+static void nothing_lent(void)
+{
+    static struct call c;
+    even(&c, 8, 1000, 7, 10);
+    uint8_t row[32], file[536], before[536];
+    memcpy(row, c.string[DEPTHS].at, 32);
+    expect(is(pathpetal_make(8, 1000, 20, 10, NULL, 0, NULL, 0, NULL, 0, NULL, 0), 1, 0, 0), "make of nothing");
+    expect(is(pathpetal_make(0, 0, 0, 0, NULL, 0, NULL, 0, NULL, 0, NULL, 0), 1, 0, 0), "make of no cells");
+    expect(is(pathpetal_make(1ull << 62, 1000, 20, 10, NULL, 0, NULL, 0, NULL, 0, NULL, 0), 1, 0, 0),
+           "make of so many cells that 4 bytes for each seem to be none");
+    expect(is(pathpetal_make(8, 1000, 20, 10, row, 32, row, 32, row, 32, NULL, 0), 15, 0, 0), "make into nothing");
+    expect(is(pathpetal_make(8, 1000, 20, 10, row, 32, row, 32, row, 32, file, 536), 0, 0, 0), "one row lent thrice");
+    memcpy(before, file, 536);
+    expect(is(pathpetal_check(NULL, 0), 12, 0, 0) && is(pathpetal_filter(NULL, 0), 12, 0, 0) &&
+           is(pathpetal_run(NULL, 0, 5), 12, 0, 0) && is(pathpetal_step(NULL, 0, NULL, 0), 12, 0, 0) &&
+           is(pathpetal_step(NULL, 0, row, 32), 12, 0, 0), "no bytes are no file");
+    expect(is(pathpetal_step(file, 536, NULL, 0), 1, 0, 0) && !memcmp(file, before, 536), "nothing is no poured row");
+}
+
+/* Strings longer than 4 GiB, so that their lengths' last 32 bits alone would be right. */
+static void long_strings(void)
+{
+    static struct call c;
+    size_t over = (size_t)(1ull << 32), size = over + 2 * ARENA;
+    uint8_t *file = over ? mmap(NULL, size, PROT_READ | PROT_WRITE, MAP_PRIVATE | MAP_ANONYMOUS | MAP_NORESERVE, -1, 0)
+                         : MAP_FAILED;
+    if (file == MAP_FAILED) {
+        puts("strings of 4 GiB: no room here, left out");
+        return;
+    }
+    even(&c, 8, 1000, 7, 10);
+    compare(MAKE, &c);
+    memcpy(file, c.string[BYTES].at, 536);
+    const uint8_t *row = c.string[DEPTHS].at, *bytes = c.string[BYTES].at;
+    expect(is(pathpetal_check(file, over + 536), 12, 0, 0), "a file 4 GiB too long is checked");
+    expect(is(pathpetal_filter(file, over + 536), 12, 0, 0), "a file 4 GiB too long is filtered");
+    expect(is(pathpetal_run(file, over + 536, 1), 12, 0, 0), "a file 4 GiB too long is run");
+    expect(is(pathpetal_step(file, over + 536, row, 32), 12, 0, 0), "a file 4 GiB too long is stepped");
+    expect(!memcmp(file, bytes, 536), "it stays as it was");
+    expect(is(pathpetal_step(c.string[BYTES].at, 536, file, over + 32), 1, 0, 0), "a poured row 4 GiB too long");
+    expect(is(pathpetal_make(8, 1000, 20, 10, file, over + 32, row, 32, row, 32, c.string[BYTES].at, 536), 1, 0, 0) &&
+           is(pathpetal_make(8, 1000, 20, 10, row, 32, file, over + 32, row, 32, c.string[BYTES].at, 536), 1, 0, 0) &&
+           is(pathpetal_make(8, 1000, 20, 10, row, 32, row, 32, file, over + 32, c.string[BYTES].at, 536), 1, 0, 0),
+           "make's rows 4 GiB too long");
+    expect(is(pathpetal_make(8, 1000, 20, 10, row, 32, row, 32, row, 32, file, over + 536), 15, 0, 0) &&
+           !memcmp(file, bytes, 536), "make into a buffer 4 GiB too long");
+    munmap(file, size);
+}
+
+/* ---- what must have occurred ---- */
+
+static bool due(enum kind kind, int number, int place)
+{
+    bool stepped = kind == STEP || kind == RUN;
+    if (place == 0)
+        switch (number) {
+        case 1: case 2: case 3: case 4: case 5: case 0: return true;
+        case 11: return kind == STEP || kind == FILTER;
+        case 12: case 13: case 14: return kind != MAKE;
+        case 15: return kind == MAKE;
+        case 16: return kind == RUN;
+        default: return false;
+        }
+    switch (number) {
+    case 4: case 8: return stepped || (kind == FILTER && place == 1);
+    case 7: return stepped || (kind != CHECK && place == 1);
+    case 9: return (stepped && place <= 1 + 3) || (kind != CHECK && place == 1);
+    case 10: return stepped && place == 1 + 10;
+    default: return false;
+    }
+}
+
+static void table(void)
+{
+    char what[80];
+    puts("answers, by call and number: before the stages | at stage 0, 1 .. 10");
+    for (enum kind kind = CHECK; kind < KINDS; kind++)
+        for (int number = 0; number < NUMBERS; number++) {
+            long sum = 0;
+            for (int place = 0; place < PLACES; place++) {
+                sum += refused_at[kind][number][place];
+                if (due(kind, number, place)) {
+                    snprintf(what, sizeof what, "%s answered %d %s %d", names[kind], number,
+                             place ? "at stage" : "before its stages", place ? place - 1 : 0);
+                    expect(refused_at[kind][number][place] > 0, what);
+                }
+            }
+            if (sum == 0)
+                continue;
+            printf("%-6s %2d %7ld", names[kind], number, refused_at[kind][number][0]);
+            if (sum > refused_at[kind][number][0]) {
+                fputs(" |", stdout);
+                for (int place = 1; place < PLACES; place++)
+                    printf(" %ld", refused_at[kind][number][place]);
+            }
+            puts("");
+        }
+    fputs("step   settled at correction 1 to 10:", stdout);
+    for (int k = 1; k <= 10; k++) {
+        printf(" %ld", settled[k]);
+        expect(settled[k] > 0, "steps settled at every correction");
+    }
+    puts("");
+    for (int i = 0; i < EVENTS; i++) {
+        printf("%s: %ld\n", event_names[i], events[i]);
+        expect(events[i] > 0, event_names[i]);
+    }
+    printf("damaged files: %ld\n", damaged_files);
+    expect(damaged_files >= 20000, "20,000 damaged files");
+}
+
+int main(void)
+{
+    struct sigaction on_touch = {.sa_handler = touched};
+    setvbuf(stdout, NULL, _IOLBF, 0);
+    sigaction(SIGSEGV, &on_touch, NULL);
+    sigaction(SIGBUS, &on_touch, NULL);
+    arenas();
+    rare_channels();
+    seed(20260101);
+    known();
+    nothing_lent();
+    long_strings();
+    many_damaged_files();
+    makes();
+    channels();
+    table();
+    printf("%ld passed, %ld failed\n", passed, failed);
+    return failed != 0;
+}
