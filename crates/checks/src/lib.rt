@@ -11,7 +11,7 @@ ghost use Rattle.rule.specs.Ranges as rule;
 ghost use Rattle.rule.specs.Checks as checks;
 ghost use Rattle.rule.specs.Refusals.{done, numberOf};
 ghost use Rattle.rows.specs.Firsts.{firsts};
-ghost use Rattle.solve.specs.Ready.{Bed};
+ghost use Rattle.coefficients.specs.Ready.{Bed};
 ghost use Rattle.whole.specs.Row.{Within};
 ghost use Rattle.checks.specs.Allowed.{pouredRows};
 ghost use Rattle.checks.specs.Asked.{Water};
@@ -85,7 +85,7 @@ pub fn wet(n: usize, x: u64, h: &[i64], e: &[i64]) -> u64
     if !deep(h, e, n) {
         return 4;
     }
-    if !solve::all_dominant(n, x, h) {
+    if !coefficients::all_dominant(n, x, h) {
         return 5;
     }
     0

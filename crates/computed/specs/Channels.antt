@@ -1,5 +1,5 @@
 -- Whole calls over rows, computed by the prover: each way a step or a run ends, and a step of 24 cells.
--- The numbers are the second program's: compare/computed writes this file from compare/calls.txt, and asks again in the tests.
+-- The numbers are the second program's: tests/compare/computed writes this file from tests/compare/calls.txt, and asks again in the tests.
 -- A channel is its counts N, X, T, accepted, wanted and its rows h, e, u, V, Q, F; an answer is number, stage and count.
 use mathlib.Core.Path.{_≡_}
 use mathlib.Core.List.{[], _∷_}

@@ -1,5 +1,5 @@
 -- Whole calls over the bytes of a file, computed by the prover: written, read, printed, made, stepped, filtered, run.
--- The numbers are the second program's: compare/computed writes this file from compare/calls.txt, and asks again in the tests.
+-- The numbers are the second program's: tests/compare/computed writes this file from tests/compare/calls.txt, and asks again in the tests.
 -- A channel is its counts N, X, T, accepted, wanted and its rows h, e, u, V, Q, F; an answer is number, stage and count.
 use Prim.Native.Nat.{ℕ, _+_}
 use mathlib.Core.Path.{_≡_, refl}

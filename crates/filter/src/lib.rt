@@ -31,8 +31,8 @@ fn smoothed(n: usize, x: u64, h: &[i64], e: &[i64], v: &[i64]) -> stage::Trial
     requires { ⌜ Smoothing n x (now h) (now e) (now v) ⌝ }
     ensures { λ r. ⌜ r ≡ trialOf n (tried (moving n x 0 (now (h .entry)) [] []) (rule.smoothed n (now (e .entry))) (rule.smoothedReduced n (now (v .entry)))) ⌝ }
 {
-    let heights = motion::smoothed(n, e);
-    let reduced = motion::smoothed_reduced(n, v);
+    let heights = smoothing::smoothed(n, e);
+    let reduced = smoothing::smoothed_reduced(n, v);
     stage::tried(n, x, h, heights, reduced)
 }
 

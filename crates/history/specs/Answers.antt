@@ -13,7 +13,7 @@ use Rattle.rule.specs.Step.{Stepped, accept, step}
 use Rattle.rule.specs.Run.{Ending, open-by, Ran, runOn, runFor}
 use Rattle.rule.specs.Calls.{called, ended, ran, stepCall, runCall, runForCall}
 use Rattle.checks.specs.Numbers.{number-not-0}
-use Rattle.run.specs.Runs.{nothing, run-is, ended-count}
+use Rattle.run_for.specs.Runs.{nothing, run-is, ended-count}
 use Rattle.water.specs.Calls.{step-accepted}
 use Rattle.water.specs.History as rule
 use Rattle.water.specs.History.{Call, pour, next, after, taken}

@@ -14,7 +14,7 @@ use Rattle.rule.specs.Run.{runOn, runFor}
 use Rattle.rule.specs.Calls.{called, plainly, ended, ran, stepCall, filterCall, runCall, runForCall}
 use Rattle.answers.specs.Stages.{refusal, acceptance, leaves}
 use Rattle.checks.specs.Numbers.{done-of}
-use Rattle.run.specs.Runs.{run-is}
+use Rattle.run_for.specs.Runs.{run-is}
 
 module _ (c : Channel) (e : c .accepted ≡ c .wanted) where
   not-ready : (rows : List Row) → numberOf (checked c rows) ≡ 0 → ready c rows ≡ refused complete 0

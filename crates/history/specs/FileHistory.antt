@@ -7,7 +7,7 @@ use lib.IntN.{ℤ, pos, _+ℤ_}
 use Rattle.rule.specs.declared.Answer.{Answer}
 use Rattle.rule.specs.Calls.{Called, runForFile}
 use Rattle.rule.specs.Ranges.{mostSteps}
-use Rattle.pathpetal.specs.Packed.{unpacked}
+use Rattle.packing.specs.Packed.{unpacked}
 use Rattle.history.specs.FileRule as rule
 use Rattle.history.specs.FileRule.{FileCall, pour, smooth, onBytes, pouredWith, acceptedWith}
 use Rattle.history.specs.FileCalls.{Step, Filter, RunFor, Run, Check, Make, CStep, CFilter, CRun, CCheck, CMake, step-entry, step-exit, step-row, entry, exit, run-for-most, run-for-entry, run-for-exit, c-run-most, c-run-entry, c-run-exit, check-bytes, make-exit}

@@ -11,10 +11,10 @@ use Rattle.rule.specs.Refusals.{numberOf}
 use Rattle.rule.specs.File.{countOf}
 use Rattle.rule.specs.Calls.{Called, read, makeFile}
 use Rattle.little.specs.Numbers.{AreBytes}
-use Rattle.on_file.specs.Kept.{leaving}
+use Rattle.answers.specs.Stages.{leavesBytes}
 use Rattle.on_file.specs.Ran.{run-leaves, run-writes-all, run-writes-none}
 use Rattle.on_file.specs.Stays.{Refused, Stepless, step-refused-file-stays, filter-refused-file-stays, stepless-run-file-stays}
-use Rattle.pathpetal.specs.Packed.{make-unpacked, check-unpacked}
+use Rattle.packing.specs.Packed.{make-unpacked, check-unpacked}
 use Rattle.history.specs.FileRule.{FileCall, pour, smooth, run-for, onBytes, fileAfter, heights}
 use Rattle.history.specs.Files.{taken-bounded, make-file-taken, check-taken}
 use Rattle.history.specs.FileCalls.{Run, entry, exit, check-bytes}
@@ -22,7 +22,7 @@ use Rattle.history.specs.FileHistory.{FileStart, made, checked, c-made, 
 use Rattle.history.specs.FileTold.{both, told, lent, left, all-left}
 
 -- each answer is the rule's, and so are the bytes that are left
-pub file-answers-are-the-rule's : {s t : List ℕ} (l : FileLink s t) → leaving (answer l) t ≡ ruled l
+pub file-answers-are-the-rule's : {s t : List ℕ} (l : FileLink s t) → leavesBytes (answer l) t ≡ ruled l
 file-answers-are-the-rule's l = told l
 
 -- the bytes are those that the rule's calls leave
@@ -88,7 +88,7 @@ library-program-writes o =
     }
 
 -- what the maker or the reader accepts is read
-of-made : {a : Answer} {s : List ℕ} {k : Called (List ℕ)} → leaving a s ≡ k → (k .answer .number ≡ 0 → numberOf (read (k .left)) ≡ 0) → a .number ≡ 0 → numberOf (read s) ≡ 0
+of-made : {a : Answer} {s : List ℕ} {k : Called (List ℕ)} → leavesBytes a s ≡ k → (k .answer .number ≡ 0 → numberOf (read (k .left)) ≡ 0) → a .number ≡ 0 → numberOf (read s) ≡ 0
 of-made e h z = subst (λ (k : Called (List ℕ)). k .answer .number ≡ 0 → numberOf (read (k .left)) ≡ 0) (sym e) h z
 
 pub file-start-taken : {s : List ℕ} → FileStart s → numberOf (read s) ≡ 0

@@ -12,8 +12,8 @@ use Rattle.little.specs.Numbers.{AreBytes}
 use Rattle.checks.specs.Numbers.{number-not-0}
 use Rattle.files.specs.Whole.{bytes-file}
 use Rattle.files.specs.Trips.{file-read}
-use Rattle.on_file.specs.Kept.{leaving}
-use Rattle.pathpetal.specs.Packed.{make-unpacked}
+use Rattle.answers.specs.Stages.{leavesBytes}
+use Rattle.packing.specs.Packed.{make-unpacked}
 use Rattle.history.specs.FileRule.{FileCall, pour, smooth, run-for, onBytes}
 use Rattle.history.specs.FileHistory.{FileStart, made, checked, c-made, c-checked, FileLink, FileHistory, none, then, ruled, callBy}
 use Rattle.history.specs.FileTold.{both, told, lent}
@@ -45,7 +45,7 @@ make-bytes : (n X T wanted : ℕ) (h e u buffer : List ℕ) → let k = makeFile
 unfolding makeFile
 make-bytes n X T wanted h e u buffer = of-make buffer _
 
-of-made : {a : Answer} {s : List ℕ} {k : Called (List ℕ)} → leaving a s ≡ k → (k .answer .number ≡ 0 → AreBytes (k .left)) → a .number ≡ 0 → AreBytes s
+of-made : {a : Answer} {s : List ℕ} {k : Called (List ℕ)} → leavesBytes a s ≡ k → (k .answer .number ≡ 0 → AreBytes (k .left)) → a .number ≡ 0 → AreBytes s
 of-made e h z = subst (λ (k : Called (List ℕ)). k .answer .number ≡ 0 → AreBytes (k .left)) (sym e) h z
 
 start-bytes : {s : List ℕ} → FileStart s → AreBytes s

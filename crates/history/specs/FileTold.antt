@@ -6,20 +6,20 @@ use Rattle.rule.specs.declared.Answer.{Answer}
 use Rattle.rule.specs.Calls.{Called, stepFile, filterFile, runForFile}
 use Rattle.rule.specs.Ranges.{mostSteps}
 use Rattle.little.specs.Numbers.{AreBytes}
-use Rattle.on_file.specs.Kept.{leaving}
+use Rattle.answers.specs.Stages.{leavesBytes}
 use Rattle.on_file.specs.Ran.{run-leaves}
-use Rattle.pathpetal.specs.Packed.{step-unpacked, filter-unpacked, run-unpacked}
+use Rattle.packing.specs.Packed.{step-unpacked, filter-unpacked, run-unpacked}
 use Rattle.history.specs.FileRule.{FileCall, onBytes, fileAfter, pouredWith, acceptedWith, filePouredBy, fileAcceptedBy}
 use Rattle.history.specs.Files.{Left, call-left}
 use Rattle.history.specs.FileCalls.{step-entry, step-row, entry, c-run-most, c-run-entry}
 use Rattle.history.specs.FileHistory.{FileLink, step, filter, run-for, run, c-step, c-filter, c-run, FileHistory, none, then, pouredBy, acceptedBy, answer, ruled, callBy, calls}
 
 -- an answer and bytes that are a call's
-pub both : (k : Called (List ℕ)) {a : Answer} {t : List ℕ} → a ≡ k .answer → t ≡ k .left → leaving a t ≡ k
+pub both : (k : Called (List ℕ)) {a : Answer} {t : List ℕ} → a ≡ k .answer → t ≡ k .left → leavesBytes a t ≡ k
 both k p q = rw (p, q)
 
 -- each call answers as the rule does, and leaves the bytes that the rule leaves
-pub told : {s t : List ℕ} (l : FileLink s t) → leaving (answer l) t ≡ ruled l
+pub told : {s t : List ℕ} (l : FileLink s t) → leavesBytes (answer l) t ≡ ruled l
 unfolding answer ruled callBy onBytes
 told (step o) = o .permitted .0
 told (filter o) = o .permitted .0

@@ -9,7 +9,7 @@ use Rattle.rule.specs.declared.Answer.{Answer}
 use Rattle.rule.specs.Calls.{Called, packed, checkFile, makeFile, stepFile, filterFile, runForFile, runFile}
 use Rattle.little.specs.Numbers.{AreBytes}
 use Rattle.on_file.specs.Ran.{inBuffer, run-leaves}
-use Rattle.pathpetal.specs.Packed.{make-unpacked, check-unpacked}
+use Rattle.packing.specs.Packed.{make-unpacked, check-unpacked}
 use Rattle.history.specs.Witness.{forever, ref}
 use Rattle.history.specs.FileRule as rule
 use Rattle.history.specs.FileRule.{FileCall, pour, smooth, onBytes, fileAfter}

@@ -12,7 +12,7 @@ use Rattle.rule.specs.Rows.{Row, sum}
 use Rattle.rule.specs.Channel.{Channel}
 use Rattle.rule.specs.Calls.{Called, stepCall, filterCall, runCall, runForCall}
 use Rattle.answers.specs.Stages.{refusal, acceptance}
-use Rattle.run.specs.Runs.{nothing}
+use Rattle.run_for.specs.Runs.{nothing}
 use Rattle.water.specs.History.{Call, pour, smooth}
 use Rattle.history.specs.Steps as steps
 use Rattle.history.specs.Filters as filters

@@ -1,11 +1,11 @@
--- Reading: an outcome of a call of `reader::read`, any that its contract permits.
+-- Reading: an outcome of a call of `read::read`, any that its contract permits.
 use Prim.Native.Nat.{ℕ}
 use mathlib.Core.List.{List}
 use denote.Ref.{now}
 use Rattle.rule.specs.declared.Answer.{Answer}
 use Rattle.rule.specs.Channel.{Channel}
-use Rattle.reader.proofs.read.Kinds as kinds
-use Rattle.reader.proofs.read.Reads.{Post}
+use Rattle.read.proofs.read.Kinds as kinds
+use Rattle.read.proofs.read.Reads.{Post}
 use Rattle.history.specs.Outcomes.{Outcome}
 use Rattle.history.specs.Lent.{lent}
 

@@ -1,12 +1,12 @@
--- Running: an outcome of a call of `run::run` or of `run::run_for`, any that its contract permits.
+-- Running: an outcome of a call of `run::run` or of `run_for::run_for`, any that its contract permits.
 use Prim.Native.Nat.{ℕ}
 use Rattle.rule.specs.declared.Answer.{Answer}
 use Rattle.rule.specs.Channel.{Channel}
 use Rattle.rule.specs.Counted.{after}
 use Rattle.run.proofs.run.Kinds as run-kinds
 use Rattle.run.proofs.run.Reads as run-reads
-use Rattle.run.proofs.run_for.Kinds as run-for-kinds
-use Rattle.run.proofs.run_for.Reads as run-for-reads
+use Rattle.run_for.proofs.run_for.Kinds as run-for-kinds
+use Rattle.run_for.proofs.run_for.Reads as run-for-reads
 use Rattle.history.specs.Outcomes.{Outcome}
 use Rattle.history.specs.Lent.{lent, left}
 

@@ -12,7 +12,7 @@ use Rattle.little.specs.Numbers.{AreBytes}
 use Rattle.rule.specs.Calls.{Called, makeCall, readCall, stepCall, filterCall, runCall, runForCall}
 use Rattle.rule.specs.Counted.{countsOf, leftOf}
 use Rattle.answers.specs.Stages.{leaves}
-use Rattle.reader.specs.Left.{readOf}
+use Rattle.read.specs.Left.{readOf}
 use Rattle.water.specs.History as rule
 use Rattle.water.specs.History.{Call, next, after}
 use Rattle.history.specs.Lent.{Rows}

@@ -1,4 +1,5 @@
-// The four calls over lent rows, for C. The comparison with the second program and the bench call them.
+// The four calls over lent rows, for C, with numbers and pointers alone: each gives the answer's number, and its stage and count
+// by pointers. The comparison with the second program and the bench call them.
 ghost use mathlib.Core.Path.{_≡_};
 ghost use Rattle.rule.specs.Channel.{channel};
 ghost use Rattle.rule.specs.Calls.{makeCall, stepCall, filterCall, runCall};
@@ -18,8 +19,10 @@ pub extern "C" fn lent_make(
     v: &mut [i64],
     q: &mut [i64],
     f: &mut [i64],
-) -> rule::Answer
-    ensures { λ r. ⌜ leaves r (channel n x t (now (accepted .exit)) wanted (now (h .entry)) (now (e .entry)) (now (u .entry)) (now (v .exit)) (now (q .exit)) (now (f .exit))) ≡ makeCall (channel n x t (now (accepted .entry)) wanted (now (h .entry)) (now (e .entry)) (now (u .entry)) (now (v .entry)) (now (q .entry)) (now (f .entry))) ⌝ }
+    stage: &mut u64,
+    count: &mut u64,
+) -> u64
+    ensures { λ r. ⌜ leaves (record { number = r; stage = now (stage .exit); count = now (count .exit) }) (channel n x t (now (accepted .exit)) wanted (now (h .entry)) (now (e .entry)) (now (u .entry)) (now (v .exit)) (now (q .exit)) (now (f .exit))) ≡ makeCall (channel n x t (now (accepted .entry)) wanted (now (h .entry)) (now (e .entry)) (now (u .entry)) (now (v .entry)) (now (q .entry)) (now (f .entry))) ⌝ }
 {
     let c = rule::Counts {
         n,
@@ -30,7 +33,9 @@ pub extern "C" fn lent_make(
     };
     let r = make::make(c, h, e, u, v, q, f);
     *accepted = r.accepted;
-    r.answer
+    *stage = r.answer.stage;
+    *count = r.answer.count;
+    r.answer.number
 }
 
 // One step, with s poured.
@@ -48,8 +53,10 @@ pub extern "C" fn lent_step(
     q: &mut [i64],
     f: &mut [i64],
     s: &[i64],
-) -> rule::Answer
-    ensures { λ r. ⌜ leaves r (channel n x t (now (accepted .exit)) wanted (now (h .entry)) (now (e .exit)) (now (u .exit)) (now (v .exit)) (now (q .exit)) (now (f .exit))) ≡ stepCall (channel n x t (now (accepted .entry)) wanted (now (h .entry)) (now (e .entry)) (now (u .entry)) (now (v .entry)) (now (q .entry)) (now (f .entry))) (now (s .entry)) ⌝ }
+    stage: &mut u64,
+    count: &mut u64,
+) -> u64
+    ensures { λ r. ⌜ leaves (record { number = r; stage = now (stage .exit); count = now (count .exit) }) (channel n x t (now (accepted .exit)) wanted (now (h .entry)) (now (e .exit)) (now (u .exit)) (now (v .exit)) (now (q .exit)) (now (f .exit))) ≡ stepCall (channel n x t (now (accepted .entry)) wanted (now (h .entry)) (now (e .entry)) (now (u .entry)) (now (v .entry)) (now (q .entry)) (now (f .entry))) (now (s .entry)) ⌝ }
 {
     let c = rule::Counts {
         n,
@@ -60,7 +67,9 @@ pub extern "C" fn lent_step(
     };
     let r = step::step(c, h, e, u, v, q, f, s);
     *accepted = r.accepted;
-    r.answer
+    *stage = r.answer.stage;
+    *count = r.answer.count;
+    r.answer.number
 }
 
 // One filter pass.
@@ -77,8 +86,10 @@ pub extern "C" fn lent_filter(
     v: &mut [i64],
     q: &mut [i64],
     f: &mut [i64],
-) -> rule::Answer
-    ensures { λ r. ⌜ leaves r (channel n x t accepted wanted (now (h .entry)) (now (e .exit)) (now (u .exit)) (now (v .exit)) (now (q .exit)) (now (f .exit))) ≡ filterCall (channel n x t accepted wanted (now (h .entry)) (now (e .entry)) (now (u .entry)) (now (v .entry)) (now (q .entry)) (now (f .entry))) ⌝ }
+    stage: &mut u64,
+    count: &mut u64,
+) -> u64
+    ensures { λ r. ⌜ leaves (record { number = r; stage = now (stage .exit); count = now (count .exit) }) (channel n x t accepted wanted (now (h .entry)) (now (e .exit)) (now (u .exit)) (now (v .exit)) (now (q .exit)) (now (f .exit))) ≡ filterCall (channel n x t accepted wanted (now (h .entry)) (now (e .entry)) (now (u .entry)) (now (v .entry)) (now (q .entry)) (now (f .entry))) ⌝ }
 {
     let c = rule::Counts {
         n,
@@ -87,7 +98,10 @@ pub extern "C" fn lent_filter(
         accepted,
         wanted,
     };
-    filter::filter(c, h, e, u, v, q, f)
+    let r = filter::filter(c, h, e, u, v, q, f);
+    *stage = r.stage;
+    *count = r.count;
+    r.number
 }
 
 // Steps with nothing poured, until complete or refused.
@@ -104,8 +118,10 @@ pub extern "C" fn lent_run(
     v: &mut [i64],
     q: &mut [i64],
     f: &mut [i64],
-) -> rule::Answer
-    ensures { λ r. ⌜ leaves r (channel n x t (now (accepted .exit)) wanted (now (h .entry)) (now (e .exit)) (now (u .exit)) (now (v .exit)) (now (q .exit)) (now (f .exit))) ≡ runCall (channel n x t (now (accepted .entry)) wanted (now (h .entry)) (now (e .entry)) (now (u .entry)) (now (v .entry)) (now (q .entry)) (now (f .entry))) ⌝ }
+    stage: &mut u64,
+    count: &mut u64,
+) -> u64
+    ensures { λ r. ⌜ leaves (record { number = r; stage = now (stage .exit); count = now (count .exit) }) (channel n x t (now (accepted .exit)) wanted (now (h .entry)) (now (e .exit)) (now (u .exit)) (now (v .exit)) (now (q .exit)) (now (f .exit))) ≡ runCall (channel n x t (now (accepted .entry)) wanted (now (h .entry)) (now (e .entry)) (now (u .entry)) (now (v .entry)) (now (q .entry)) (now (f .entry))) ⌝ }
 {
     let c = rule::Counts {
         n,
@@ -116,5 +132,7 @@ pub extern "C" fn lent_run(
     };
     let r = run::run(c, h, e, u, v, q, f);
     *accepted = r.accepted;
-    r.answer
+    *stage = r.answer.stage;
+    *count = r.answer.count;
+    r.answer.number
 }

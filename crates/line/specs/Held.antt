@@ -19,10 +19,10 @@ use Rattle.checks.specs.Numbers.{number-within}
 use Rattle.checks.specs.Allowed.{allowed-of}
 use Rattle.little.specs.Written.{written, length-written}
 use Rattle.text.specs.Lines.{lineOf, refusedOf, Printable, channel-line, refused-line}
-use Rattle.reader.specs.Opened.{Opened, opened-of, read-refused, plain-read}
-use Rattle.reader.specs.Reader.{fitsIn}
-use Rattle.reader.specs.Held.{four-cut}
-use Rattle.reader.specs.Left.{held-row}
+use Rattle.opened.specs.Opened.{Opened, opened-of, read-refused, plain-read}
+use Rattle.form.specs.Reader.{fitsIn}
+use Rattle.opened.specs.Held.{four-cut}
+use Rattle.opened.specs.Fitting.{held-row}
 
 -- every number is at most 15
 outcome-most : {A : Type 0} (m : Outcome A) → numberOf m ≤ 15

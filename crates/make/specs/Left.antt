@@ -18,13 +18,13 @@ use Rattle.rule.specs.Calls.{plainly, fit, makeCall}
 use Rattle.rows.specs.All.{map-tab}
 use Rattle.rows.specs.Firsts.{firsts, firsts-padded}
 use Rattle.flux.specs.Faces.{length-fluxes}
-use Rattle.flux.specs.Sizes.{length-accelerations}
+use Rattle.dispersion.specs.Sizes.{length-accelerations}
 use Rattle.checks.specs.Numbers.{Outside, outside-met, refuses-then, refuses-test, Early}
 use Rattle.checks.specs.Met.{make-checked-met}
 use Rattle.answers.specs.Stages.{leaves, early, acceptance, refused-call, accepted-call, unfit-call}
 use Rattle.store.specs.Levels.{renewed-all}
-use Rattle.make.specs.declared.Made.{Made}
-use Rattle.make.specs.Made.{madeOf, made-number, rowsOf, rows-kept, whole-of}
+use Rattle.work_out.specs.declared.Made.{Made}
+use Rattle.work_out.specs.Made.{madeOf, made-number, rowsOf, rows-kept, whole-of}
 
 -- a refusal of make has stage 0
 make-outside : (n X T wanted : ℕ) (h e u : Row) → Outside (make n X T wanted h e u)

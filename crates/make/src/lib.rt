@@ -1,50 +1,7 @@
 // Making: a channel from its counts, depths h, heights e and velocities u.
 ghost use mathlib.Core.Path.{_≡_};
 ghost use Rattle.rule.specs.Counted.{counted, left};
-ghost use Rattle.rule.specs.Make as rule;
 ghost use Rattle.rule.specs.Calls.{makeCall};
-ghost use Rattle.make.specs.Made.{nothing, madeOf};
-
-// 0 with V, Q of each face and F of each cell; or the refusal's number, and zeros.
-struct Made {
-    number: u64,
-    v: [i64; rule::MOST_CELLS],
-    q: [i64; rule::MOST_CELLS],
-    f: [i64; rule::MOST_CELLS],
-}
-
-fn nothing(number: u64) -> Made
-    ensures { λ r. ⌜ r ≡ nothing number ⌝ }
-{
-    Made {
-        number,
-        v: [0; rule::MOST_CELLS],
-        q: [0; rule::MOST_CELLS],
-        f: [0; rule::MOST_CELLS],
-    }
-}
-
-// What make stores, worked out before anything is stored.
-fn work_out(c: rule::Counts, h: &[i64], e: &[i64], u: &[i64]) -> Made
-    ensures { λ r. ⌜ r ≡ madeOf (c .n) (rule.make (c .n) (c .x) (c .t) (c .wanted) (now (h .entry)) (now (e .entry)) (now (u .entry))) ⌝ }
-{
-    let number = checks::check_made(c, h, e, u);
-    if number != 0 {
-        return nothing(number);
-    }
-    let velocities = make_v::reduced_velocities(c.n, c.x, h, u);
-    let fluxes = flux::fluxes(c.n, c.x, h, e, u);
-    if velocities.number != 0 {
-        return nothing(velocities.number);
-    }
-    if fluxes.number != 0 {
-        return nothing(fluxes.number);
-    }
-    let v = velocities.v;
-    let q = fluxes.q;
-    let f = flux::accelerations(c.n, c.x, e, u);
-    Made { number: 0, v, q, f }
-}
 
 // Of the lent rows h, e and u are read, the others are filled; no step of what is made is accepted. A refused call leaves them
 // all, and the count of accepted steps, as they were.
@@ -65,7 +22,7 @@ pub fn make(
             accepted: c.accepted,
         };
     }
-    let made = work_out(c, h, e, u);
+    let made = work_out::work_out(c, h, e, u);
     if made.number != 0 {
         return rule::Left {
             answer: answers::refused(made.number, 0),

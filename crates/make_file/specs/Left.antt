@@ -20,13 +20,12 @@ use Rattle.checks.specs.Tests.{both}
 use Rattle.checks.specs.Numbers.{number-not-0}
 use Rattle.checks.specs.Facts.{cells-few, lengths-pass, LengthsOf}
 use Rattle.checks.specs.Made.{Makeable}
-use Rattle.answers.specs.Stages.{leaves}
-use Rattle.reader.specs.Reader.{fitsIn}
-use Rattle.reader.specs.Held.{poured-is, four-cut}
+use Rattle.answers.specs.Stages.{leaves, leavesBytes}
+use Rattle.form.specs.Reader.{fitsIn}
+use Rattle.opened.specs.Held.{poured-is, four-cut}
 use Rattle.water.specs.Starts.{make-passes}
-use Rattle.writer.specs.Asked.{writable-of, WritableOf}
-use Rattle.writer.specs.Left.{leavesBytes}
-use Rattle.make_file.specs.Order.{filed}
+use Rattle.put.specs.Asked.{writable-of, WritableOf}
+use Rattle.make_checks.specs.Order.{filed}
 
 -- n cells, their rows, and a buffer of their file's length
 pub record Fitting (n : ℕ) (h e u : Row) (s : List ℕ) : Type 0 where

@@ -1,61 +1,16 @@
 // Making over the bytes of a channel file: 1 to 5, then 15, then the rest of make.
 ghost use mathlib.Core.Path.{_≡_};
-ghost use mathlib.Core.Bool.{_&&_};
 ghost use Prim.Native.Nat.{_*_, _≤_};
 ghost use lib.ListN.{length};
-ghost use Rattle.rule.specs.Ranges.{cellsAllowed, mostCells};
-ghost use Rattle.rule.specs.Refusals.{numberOf};
+ghost use Rattle.rule.specs.Ranges.{mostCells};
 ghost use Rattle.rule.specs.Layout.{lengthOf};
 ghost use Rattle.rule.specs.File.{edition};
-ghost use Rattle.rule.specs.Calls.{holds, makeFile};
+ghost use Rattle.rule.specs.Calls.{makeFile};
 ghost use Rattle.rule.specs.Make as rule;
 ghost use Rattle.checks.specs.Facts.{Lengths};
-ghost use Rattle.writer.specs.Left.{leavesBytes};
-ghost use Rattle.make_file.specs.Order.{firstOf, bufferChecked, tested, filed, makeRows};
+ghost use Rattle.answers.specs.Stages.{leavesBytes};
+ghost use Rattle.make_checks.specs.Order.{filed, makeRows};
 ghost use Rattle.make_file.specs.Left.{Fitting};
-
-// 1: N, and the bytes of the rows. N is tested first, so that 4N does not wrap.
-fn shape_passes(n: u64, h: &[u8], e: &[u8], u: &[u8]) -> bool
-    ensures { λ r. ⌜ r ≡ cellsAllowed n && (holds (now (h .entry)) n && holds (now (e .entry)) n && holds (now (u .entry)) n) ⌝ }
-{
-    let cells = n as usize;
-    if !checks::cells_allowed(cells) {
-        return false;
-    }
-    let bytes = 4 * cells;
-    (h.len() == bytes) & (e.len() == bytes) & (u.len() == bytes)
-}
-
-// 15, or 0 where `room` is the length of a file of n cells.
-fn check_buffer(n: usize, room: usize) -> u64
-    requires { ⌜ (1 ≤ n) × (n ≤ mostCells) ⌝ }
-    ensures { λ r. ⌜ r ≡ numberOf (bufferChecked n room) ⌝ }
-{
-    if room != layout::length_of(layout::EDITION, n) {
-        return 15;
-    }
-    0
-}
-
-// The first of two numbers that is a refusal's, or 0.
-fn first(one: u64, other: u64) -> u64
-    ensures { λ r. ⌜ r ≡ firstOf one other ⌝ }
-{
-    if one != 0 {
-        return one;
-    }
-    other
-}
-
-// 1 to 5, then 15: 0, or the number of the first that fails.
-fn check(c: rule::Counts, h: &[i64], e: &[i64], u: &[i64], room: usize) -> u64
-    requires { ⌜ (1 ≤ c .n) × (c .n ≤ mostCells) ⌝ }
-    ensures { λ r. ⌜ r ≡ numberOf (tested (c .n) (c .x) (c .t) (c .wanted) (now (h .entry)) (now (e .entry)) (now (u .entry)) room) ⌝ }
-{
-    let input = checks::check_made(c, h, e, u);
-    let length = check_buffer(c.n, room);
-    first(input, length)
-}
 
 // An array for a row of up to 256 entries.
 fn cells_room() -> [i64; rule::MOST_CELLS]
@@ -90,7 +45,7 @@ fn make_in(
     if answer.number != 0 {
         return answer;
     }
-    writer::put(file, c.after(r.accepted), h, e, u, v, q, f);
+    put::put(file, c.after(r.accepted), h, e, u, v, q, f);
     answer
 }
 
@@ -122,7 +77,7 @@ fn make_rows(c: rule::Counts, h: &[i64], e: &[i64], u: &[i64], file: &mut [u8]) 
     requires { ⌜ (1 ≤ c .n) × (c .n ≤ mostCells) ⌝ }
     ensures { λ r. ⌜ leavesBytes r (now (file .exit)) ≡ makeRows (c .n) (c .x) (c .t) (c .wanted) (now (h .entry)) (now (e .entry)) (now (u .entry)) (now (file .entry)) ⌝ }
 {
-    let number = check(c, h, e, u, file.len());
+    let number = make_checks::check(c, h, e, u, file.len());
     if number != 0 {
         return answers::refused(number, 0);
     }
@@ -143,7 +98,7 @@ pub fn make(
 ) -> rule::Answer
     ensures { λ r. ⌜ leavesBytes r (now (file .exit)) ≡ makeFile n x t wanted (now (h .entry)) (now (e .entry)) (now (u .entry)) (now (file .entry)) ⌝ }
 {
-    if !shape_passes(n, h, e, u) {
+    if !make_checks::shape_passes(n, h, e, u) {
         return answers::refused(1, 0);
     }
     let cells = n as usize;

@@ -19,7 +19,7 @@ use Rattle.rule.specs.Refusals.{Outcome, number, numberOf, require, speed}
 use Rattle.rule.specs.declared.Coefficients.{Coefficients}
 use Rattle.rule.specs.Coefficients.{scale, coefficients}
 use Rattle.rule.specs.Make.{reducedVelocity, reducedVelocities}
-use Rattle.solve.specs.Ready.{Bed}
+use Rattle.coefficients.specs.Ready.{Bed}
 use Rattle.rows.specs.All.{all-fails}
 use Rattle.solve.specs.Sweeps.{floats}
 use Rattle.solve.specs.Solved.{Answered, answered, solvedOf, refuses, passes, done-is}

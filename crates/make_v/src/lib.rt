@@ -21,8 +21,8 @@ fn reduced_velocity(n: usize, x: u64, h: &[i64], u: &[i64], j: usize) -> f64
     requires { ⌜ Given n x (now h) (now u) × (j < n) ⌝ }
     ensures { λ r. ⌜ r ≡ reducedVelocity n (scale x) (coefficients n x (now (h .entry)) j) (now (u .entry)) j ⌝ }
 {
-    let r = solve::coefficients(n, x, h, j);
-    let w = round::to_float(solve::scale(x) as i64);
+    let r = coefficients::coefficients(n, x, h, j);
+    let w = round::to_float(coefficients::scale(x) as i64);
     let middle = term(r.b, u, j);
     if j == 0 {
         return (middle + term(r.c, u, j + 1)) / w;

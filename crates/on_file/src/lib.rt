@@ -4,7 +4,7 @@ ghost use mathlib.Core.Path.{_≡_};
 ghost use lib.ListN.{length, take};
 ghost use Rattle.rule.specs.Calls.{checkFile, stepFile, filterFile, runForFile, runFile};
 ghost use Rattle.little.specs.Numbers.{AreBytes};
-ghost use Rattle.on_file.specs.Kept.{leaving};
+ghost use Rattle.answers.specs.Stages.{leavesBytes};
 ghost use Rattle.on_file.specs.Ran.{inBuffer};
 
 // Whether bytes are a channel file.
@@ -17,28 +17,28 @@ pub fn check(s: &[u8]) -> rule::Answer
 
 // One step, with a row poured. The file becomes that of the channel after it, or stays as it was.
 pub fn step(file: &mut [u8], poured: &[u8]) -> rule::Answer
-    ensures { λ r. ⌜ leaving r (now (file .exit)) ≡ stepFile (now (file .entry)) (now (poured .entry)) ⌝ }
+    ensures { λ r. ⌜ leavesBytes r (now (file .exit)) ≡ stepFile (now (file .entry)) (now (poured .entry)) ⌝ }
     ensures { λ _. ⌜ AreBytes (now (file .entry)) ⌝ }
 {
-    walk::walk(walk::Call::Step, file, poured)
+    walk::walk(call::Call::Step, file, poured)
 }
 
 // One filter pass.
 pub fn filter(file: &mut [u8]) -> rule::Answer
-    ensures { λ r. ⌜ leaving r (now (file .exit)) ≡ filterFile (now (file .entry)) ⌝ }
+    ensures { λ r. ⌜ leavesBytes r (now (file .exit)) ≡ filterFile (now (file .entry)) ⌝ }
     ensures { λ _. ⌜ AreBytes (now (file .entry)) ⌝ }
 {
     let none = [0u8; 1];
-    walk::walk(walk::Call::Filter, file, &none)
+    walk::walk(call::Call::Filter, file, &none)
 }
 
 // Steps with nothing poured: at most `most`, until complete or refused.
 pub fn run_for(most: u64, file: &mut [u8]) -> rule::Answer
-    ensures { λ r. ⌜ leaving r (now (file .exit)) ≡ runForFile most (now (file .entry)) ⌝ }
+    ensures { λ r. ⌜ leavesBytes r (now (file .exit)) ≡ runForFile most (now (file .entry)) ⌝ }
     ensures { λ _. ⌜ AreBytes (now (file .entry)) ⌝ }
 {
     let none = [0u8; 1];
-    walk::walk(walk::Call::Run(most), file, &none)
+    walk::walk(call::Call::Run(most), file, &none)
 }
 
 // The running program: all steps that are left. The count of bytes to write: all, the file of the channel after the run; or

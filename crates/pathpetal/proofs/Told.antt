@@ -6,7 +6,7 @@ use denote.Ref.{now}
 use denote.Triple.Clauses.{AtExit}
 use borrow.Fn.Kinds.{Dens, resT, endedOf}
 use Rattle.rule.specs.Calls.{checkFile, stepFile, filterFile, runForFile, makeFile}
-use Rattle.pathpetal.specs.Packed.{unpacked, make-unpacked, check-unpacked, step-unpacked, filter-unpacked, run-unpacked}
+use Rattle.packing.specs.Packed.{unpacked, make-unpacked, check-unpacked, step-unpacked, filter-unpacked, run-unpacked}
 use Rattle.pathpetal.proofs.pathpetal_make.Kinds as make-kinds
 use Rattle.pathpetal.proofs.pathpetal_make.Reads as make-reads
 use Rattle.pathpetal.proofs.pathpetal_check.Kinds as check-kinds

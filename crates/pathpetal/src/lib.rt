@@ -2,15 +2,6 @@
 ghost use mathlib.Core.Path.{_≡_};
 ghost use Rattle.rule.specs.Calls.{packed, checkFile, stepFile, filterFile, runForFile, makeFile};
 ghost use Rattle.little.specs.Numbers.{AreBytes};
-ghost use Rattle.pathpetal.specs.Small.{Small};
-
-// An answer in one number.
-fn pack(a: rule::Answer) -> u64
-    requires { ⌜ Small a ⌝ }
-    ensures { λ r. ⌜ r ≡ packed a ⌝ }
-{
-    a.count * 65536 + a.number * 256 + a.stage
-}
 
 // Makes the file of a channel with no step accepted.
 #[no_mangle]
@@ -26,7 +17,7 @@ pub extern "C" fn pathpetal_make(
 ) -> u64
     ensures { λ r. ⌜ (r ≡ packed (makeFile cells width time wanted (now (depths .entry)) (now (heights .entry)) (now (velocities .entry)) (now (file .entry)) .answer)) × (now (file .exit) ≡ makeFile cells width time wanted (now (depths .entry)) (now (heights .entry)) (now (velocities .entry)) (now (file .entry)) .left) ⌝ }
 {
-    pack(make_file::make(
+    packing::pack(make_file::make(
         cells,
         width,
         time,
@@ -44,7 +35,7 @@ pub extern "C" fn pathpetal_check(file: &[u8]) -> u64
     ensures { λ r. ⌜ r ≡ packed (checkFile (now (file .entry))) ⌝ }
     ensures { λ _. ⌜ AreBytes (now (file .entry)) ⌝ }
 {
-    pack(reader::answer(file, false, file))
+    packing::pack(reader::answer(file, false, file))
 }
 
 // One step, with a row poured.
@@ -53,7 +44,7 @@ pub extern "C" fn pathpetal_step(file: &mut [u8], poured: &[u8]) -> u64
     ensures { λ r. ⌜ (r ≡ packed (stepFile (now (file .entry)) (now (poured .entry)) .answer)) × (now (file .exit) ≡ stepFile (now (file .entry)) (now (poured .entry)) .left) ⌝ }
     ensures { λ _. ⌜ AreBytes (now (file .entry)) ⌝ }
 {
-    pack(walk::walk(walk::Call::Step, file, poured))
+    packing::pack(walk::walk(call::Call::Step, file, poured))
 }
 
 // One filter pass.
@@ -63,7 +54,7 @@ pub extern "C" fn pathpetal_filter(file: &mut [u8]) -> u64
     ensures { λ _. ⌜ AreBytes (now (file .entry)) ⌝ }
 {
     let none = [0u8; 1];
-    pack(walk::walk(walk::Call::Filter, file, &none))
+    packing::pack(walk::walk(call::Call::Filter, file, &none))
 }
 
 // Steps with nothing poured: at most `most`, until complete or refused.
@@ -73,5 +64,5 @@ pub extern "C" fn pathpetal_run(file: &mut [u8], most: u64) -> u64
     ensures { λ _. ⌜ AreBytes (now (file .entry)) ⌝ }
 {
     let none = [0u8; 1];
-    pack(walk::walk(walk::Call::Run(most), file, &none))
+    packing::pack(walk::walk(call::Call::Run(most), file, &none))
 }

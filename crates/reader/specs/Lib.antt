@@ -1,4 +1,1 @@
-pub mod Reader
-pub mod Held
-pub mod Opened
-pub mod Left
+pub mod Ways

@@ -12,8 +12,8 @@ use Rattle.rule.specs.Channel.{Channel}
 use Rattle.rule.specs.Calls.{Called}
 use Rattle.run.proofs.run.Kinds as run-kinds
 use Rattle.run.proofs.run.Reads as run-reads
-use Rattle.run.proofs.run_for.Kinds as run-for-kinds
-use Rattle.run.proofs.run_for.Reads as run-for-reads
+use Rattle.run_for.proofs.run_for.Kinds as run-for-kinds
+use Rattle.run_for.proofs.run_for.Reads as run-for-reads
 
 -- the values that are lent to be changed
 pub record Lent : Type 0 where

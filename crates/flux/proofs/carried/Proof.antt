@@ -9,7 +9,7 @@ use Rattle.rule.specs.Ranges.{mostDepth, mostHeight, mostVelocity}
 use Rattle.whole.specs.Expr.{E, var, lit, add, mul, need, rd-is}
 use Rattle.whole.specs.Row.{Filled, filled-start, filled-step, filled-end, zeros, padded, fill-zeros}
 use Rattle.rule.specs.Rows.{cell}
-use Rattle.flux.specs.Sizes.{carried-is}
+use Rattle.dispersion.specs.Sizes.{carried-is}
 use Rattle.flux.proofs.carried.Statement.{statement}
 use Rattle.flux.proofs.carried.Tie as tie
 

@@ -5,8 +5,8 @@ use borrow.Author.Tests.{not-true, not-false}
 use lib.ListN.{take}
 use lib.Seq.{length-take-le}
 use Rattle.rule.specs.Calls.{rowIn}
-use Rattle.writer.specs.Left.{leavesBytes}
-use Rattle.make_file.specs.Order.{makeRows, file-unfit, file-fit}
+use Rattle.answers.specs.Stages.{leavesBytes}
+use Rattle.make_checks.specs.Order.{makeRows, file-unfit, file-fit}
 use Rattle.make_file.specs.Left.{Held, held-of, row-read}
 use borrow.Author.Needs.{needs}
 use Rattle.make_file.proofs.make.Statement.{statement}

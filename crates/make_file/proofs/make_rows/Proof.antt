@@ -2,8 +2,8 @@
 use mathlib.Core.Path.{_≡_, sym, _∙_}
 use lib.ListN.{length}
 use Rattle.rule.specs.Refusals.{numberOf}
-use Rattle.writer.specs.Left.{leavesBytes}
-use Rattle.make_file.specs.Order.{tested, passed-both, rows-refused, rows-pass}
+use Rattle.answers.specs.Stages.{leavesBytes}
+use Rattle.make_checks.specs.Order.{tested, passed-both, rows-refused, rows-pass}
 use Rattle.make_file.specs.Left.{fitting-of}
 use borrow.Author.Needs.{needs}
 use Rattle.make_file.proofs.make_rows.Statement.{statement}

@@ -12,7 +12,7 @@ use Rattle.rule.specs.Rows.{Row, cell}
 use Rattle.rule.specs.Floats.{whole, _⊕_, _⊗_, _⊘_}
 use Rattle.rule.specs.Coefficients.{scale, coefficients}
 use Rattle.rule.specs.Make.{reducedVelocity}
-use Rattle.solve.specs.Rows.{scale-small}
+use Rattle.coefficients.specs.Rows.{scale-small}
 use Rattle.make_v.specs.Velocities.{at-first, at-last, between}
 use Rattle.make_v.proofs.Laws.{read-back}
 use borrow.Author.Needs.{needs}

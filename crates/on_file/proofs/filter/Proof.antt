@@ -1,6 +1,6 @@
 -- `on_file::filter` meets its contract: it is one walk. Assumes nothing.
 use mathlib.Core.Path.{_∙_}
-use Rattle.walk.specs.Walk.{filter-is}
+use Rattle.call.specs.Walk.{filter-is}
 use borrow.Author.Needs.{needs}
 use Rattle.on_file.proofs.filter.Statement.{statement}
 use Rattle.on_file.proofs.filter.Tie as tie

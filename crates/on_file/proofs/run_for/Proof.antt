@@ -1,6 +1,6 @@
 -- `on_file::run_for` meets its contract: it is one walk. Assumes nothing.
 use mathlib.Core.Path.{_∙_}
-use Rattle.walk.specs.Walk.{run-is}
+use Rattle.call.specs.Walk.{run-is}
 use borrow.Author.Needs.{needs}
 use Rattle.on_file.proofs.run_for.Statement.{statement}
 use Rattle.on_file.proofs.run_for.Tie as tie

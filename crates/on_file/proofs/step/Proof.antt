@@ -1,6 +1,6 @@
 -- `on_file::step` meets its contract: it is one walk. Assumes nothing.
 use mathlib.Core.Path.{_∙_}
-use Rattle.walk.specs.Walk.{step-is}
+use Rattle.call.specs.Walk.{step-is}
 use borrow.Author.Needs.{needs}
 use Rattle.on_file.proofs.step.Statement.{statement}
 use Rattle.on_file.proofs.step.Tie as tie

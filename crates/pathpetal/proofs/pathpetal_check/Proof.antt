@@ -2,9 +2,9 @@
 use mathlib.Core.Path.{_≡_, sym, ap, _∙_, subst}
 use native.Mathlib.Omega.{arith}
 use Rattle.rule.specs.Calls.{packed, checkFile}
-use Rattle.on_file.specs.Ways.{check-is}
-use Rattle.pathpetal.specs.Small.{Small}
-use Rattle.pathpetal.specs.Answers.{check-answer}
+use Rattle.reader.specs.Ways.{check-is}
+use Rattle.packing.specs.Small.{Small}
+use Rattle.packing.specs.Answers.{check-answer}
 use borrow.Author.Needs.{needs}
 use Rattle.pathpetal.proofs.pathpetal_check.Statement.{statement}
 use Rattle.pathpetal.proofs.pathpetal_check.Tie as tie

@@ -1,8 +1,8 @@
 -- `pathpetal::pathpetal_filter` meets its contract: it is one walk, and the answer is small. Assumes nothing.
 use mathlib.Core.Path.{_∙_}
-use Rattle.walk.specs.Walk.{filter-is}
-use Rattle.pathpetal.specs.Small.{small-by, packs}
-use Rattle.pathpetal.specs.Answers.{filter-answer}
+use Rattle.call.specs.Walk.{filter-is}
+use Rattle.packing.specs.Small.{small-by, packs}
+use Rattle.packing.specs.Answers.{filter-answer}
 use borrow.Author.Needs.{needs}
 use Rattle.pathpetal.proofs.pathpetal_filter.Statement.{statement}
 use Rattle.pathpetal.proofs.pathpetal_filter.Tie as tie

@@ -1,6 +1,6 @@
 -- `pathpetal::pathpetal_make` meets its contract: the answer is small. Assumes nothing.
-use Rattle.pathpetal.specs.Small.{small-by, packs}
-use Rattle.pathpetal.specs.Answers.{make-answer}
+use Rattle.packing.specs.Small.{small-by, packs}
+use Rattle.packing.specs.Answers.{make-answer}
 use borrow.Author.Needs.{needs}
 use Rattle.pathpetal.proofs.pathpetal_make.Statement.{statement}
 use Rattle.pathpetal.proofs.pathpetal_make.Tie as tie

@@ -1,8 +1,8 @@
 -- `pathpetal::pathpetal_run` meets its contract: it is one walk, and the answer is small. Assumes nothing.
 use mathlib.Core.Path.{_∙_}
-use Rattle.walk.specs.Walk.{run-is}
-use Rattle.pathpetal.specs.Small.{small-by, packs}
-use Rattle.pathpetal.specs.Answers.{run-answer}
+use Rattle.call.specs.Walk.{run-is}
+use Rattle.packing.specs.Small.{small-by, packs}
+use Rattle.packing.specs.Answers.{run-answer}
 use borrow.Author.Needs.{needs}
 use Rattle.pathpetal.proofs.pathpetal_run.Statement.{statement}
 use Rattle.pathpetal.proofs.pathpetal_run.Tie as tie

@@ -1,8 +1,8 @@
 -- `pathpetal::pathpetal_step` meets its contract: it is one walk, and the answer is small. Assumes nothing.
 use mathlib.Core.Path.{_∙_}
-use Rattle.walk.specs.Walk.{step-is}
-use Rattle.pathpetal.specs.Small.{small-by, packs}
-use Rattle.pathpetal.specs.Answers.{step-answer}
+use Rattle.call.specs.Walk.{step-is}
+use Rattle.packing.specs.Small.{small-by, packs}
+use Rattle.packing.specs.Answers.{step-answer}
 use borrow.Author.Needs.{needs}
 use Rattle.pathpetal.proofs.pathpetal_step.Statement.{statement}
 use Rattle.pathpetal.proofs.pathpetal_step.Tie as tie

@@ -1,7 +1,7 @@
 -- `run::run` meets its contract: a run of at most all steps is a run. Assumes nothing.
 use mathlib.Core.Path.{_∙_}
 use Rattle.rule.specs.Counted.{counted}
-use Rattle.run.specs.Runs.{run-is}
+use Rattle.run_for.specs.Runs.{run-is}
 use borrow.Author.Needs.{needs}
 use Rattle.run.proofs.run.Statement.{statement}
 use Rattle.run.proofs.run.Tie as tie

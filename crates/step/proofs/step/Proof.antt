@@ -3,7 +3,7 @@ use native.Mathlib.Numerals.{add-one}
 use borrow.Author.Needs.{needs}
 use Rattle.rule.specs.Channel.{Channel}
 use Rattle.rule.specs.Counted.{counted}
-use Rattle.step.specs.Attempt.{Attempted, cells-ask, levels-ask, count-fits, step-refused, step-accepted}
+use Rattle.attempt.specs.Attempt.{Attempted, cells-ask, levels-ask, count-fits, step-refused, step-accepted}
 use Rattle.step.proofs.step.Statement.{statement}
 use Rattle.step.proofs.step.Tie as tie
 

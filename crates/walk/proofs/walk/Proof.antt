@@ -9,10 +9,10 @@ use Rattle.rule.specs.Calls.{rowIn}
 use Rattle.little.specs.Numbers.{AreBytes}
 use Rattle.checks.specs.Allowed.{pouredRows}
 use Rattle.answers.specs.Stages.{early}
-use Rattle.reader.specs.Reader.{fitsIn}
-use Rattle.reader.specs.Held.{cells-is}
-use Rattle.reader.specs.Opened.{opened-of}
-use Rattle.walk.specs.Walk.{poursOf, Taken, refused-by, takes-of, taken-by}
+use Rattle.form.specs.Reader.{fitsIn}
+use Rattle.opened.specs.Held.{cells-is}
+use Rattle.opened.specs.Opened.{opened-of}
+use Rattle.call.specs.Walk.{poursOf, Taken, refused-by, takes-of, taken-by}
 use borrow.Author.Needs.{needs}
 use Rattle.walk.proofs.walk.Statement.{statement}
 use Rattle.walk.proofs.walk.Tie as tie

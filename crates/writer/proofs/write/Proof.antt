@@ -10,7 +10,7 @@ use Rattle.rule.specs.Counted.{counted}
 use Rattle.rule.specs.Refusals.{numberOf}
 use Rattle.rule.specs.Checks.{checked}
 use Rattle.checks.specs.Allowed.{allowed-of}
-use Rattle.writer.specs.Asked.{writable-of}
+use Rattle.put.specs.Asked.{writable-of}
 use Rattle.writer.specs.Left.{write-checked, write-unfit, write-fit}
 use Rattle.writer.proofs.write.Statement.{statement}
 use Rattle.writer.proofs.write.Tie as tie

@@ -1,0 +1,26 @@
+-- `make_checks::check` meets its contract: the input is refused before the buffer. Assumes nothing.
+use native.Mathlib.Omega.{arith}
+use Rattle.make_checks.specs.Order.{tested-is}
+use borrow.Author.Needs.{needs}
+use Rattle.make_checks.proofs.check.Statement.{statement}
+use Rattle.make_checks.proofs.check.Tie as tie
+
+check-made-requires : tie.Need-check-made-requires
+check-made-requires c κs = search needs
+
+check-buffer-requires : tie.Need-check-buffer-requires
+check-buffer-requires c κs = search needs
+
+first-requires : tie.Need-first-requires
+first-requires c κs = search needs
+
+returns : tie.Need-returns
+returns c =
+    let k = c .before in
+    let m = k .before in
+    let a = m .before .args in
+    let both = tested-is (a .c .n) (a .c .x) (a .c .t) (a .c .wanted) (a .h .now) (a .e .now) (a .u .now) (a .room) (m .check-made .result) (k .check-buffer .result) (m .check-made .ensures) (k .check-buffer .ensures) in
+    omega (arith, both, c .first .ensures)
+
+pub check-spec : {M : Type 1} → statement M
+check-spec = tie.close (tie.spec check-made-requires check-buffer-requires first-requires returns)

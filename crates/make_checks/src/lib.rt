@@ -1,0 +1,51 @@
+// Making over bytes: what is tested before anything is worked out.
+ghost use mathlib.Core.Path.{_≡_};
+ghost use mathlib.Core.Bool.{_&&_};
+ghost use Prim.Native.Nat.{_≤_};
+ghost use Rattle.rule.specs.Ranges.{cellsAllowed, mostCells};
+ghost use Rattle.rule.specs.Refusals.{numberOf};
+ghost use Rattle.rule.specs.Calls.{holds};
+ghost use Rattle.make_checks.specs.Order.{firstOf, bufferChecked, tested};
+
+// 1: N, and the bytes of the rows. N is tested first, so that 4N does not wrap.
+pub fn shape_passes(n: u64, h: &[u8], e: &[u8], u: &[u8]) -> bool
+    ensures { λ r. ⌜ r ≡ cellsAllowed n && (holds (now (h .entry)) n && holds (now (e .entry)) n && holds (now (u .entry)) n) ⌝ }
+{
+    let cells = n as usize;
+    if !checks::cells_allowed(cells) {
+        return false;
+    }
+    let bytes = 4 * cells;
+    (h.len() == bytes) & (e.len() == bytes) & (u.len() == bytes)
+}
+
+// 15, or 0 where `room` is the length of a file of n cells.
+fn check_buffer(n: usize, room: usize) -> u64
+    requires { ⌜ (1 ≤ n) × (n ≤ mostCells) ⌝ }
+    ensures { λ r. ⌜ r ≡ numberOf (bufferChecked n room) ⌝ }
+{
+    if room != layout::length_of(layout::EDITION, n) {
+        return 15;
+    }
+    0
+}
+
+// The first of two numbers that is a refusal's, or 0.
+fn first(one: u64, other: u64) -> u64
+    ensures { λ r. ⌜ r ≡ firstOf one other ⌝ }
+{
+    if one != 0 {
+        return one;
+    }
+    other
+}
+
+// 1 to 5, then 15: 0, or the number of the first that fails.
+pub fn check(c: rule::Counts, h: &[i64], e: &[i64], u: &[i64], room: usize) -> u64
+    requires { ⌜ (1 ≤ c .n) × (c .n ≤ mostCells) ⌝ }
+    ensures { λ r. ⌜ r ≡ numberOf (tested (c .n) (c .x) (c .t) (c .wanted) (now (h .entry)) (now (e .entry)) (now (u .entry)) room) ⌝ }
+{
+    let input = checks::check_made(c, h, e, u);
+    let length = check_buffer(c.n, room);
+    first(input, length)
+}

@@ -1,0 +1,48 @@
+-- Refusal numbers: number, stage and count come back out of the one number that C gets, as the header's functions take them out.
+-- Assumes nothing.
+use Prim.Native.Nat.{ℕ, _+_, _*_, _/_, _%_}
+use native.Mathlib.Omega.{arith}
+use mathlib.Core.Path.{_≡_, sym, ap, _∙_}
+use mathlib.Core.List.{List}
+use Rattle.rule.specs.declared.Answer.{Answer}
+use Rattle.rule.specs.Calls.{packed, checkFile, stepFile, filterFile, runForFile, makeFile}
+use Rattle.packing.specs.Small.{Small}
+use Rattle.packing.specs.Answers.{check-answer, step-answer, filter-answer, run-answer, make-answer}
+
+-- the answer that is in a number: pathpetal_number, pathpetal_stage and pathpetal_count of the header
+unfoldable pub unpacked : ℕ → Answer
+unpacked p = record { number = p / 256 % 256; stage = p % 256; count = p / 65_536 }
+
+-- of every answer that a call over bytes can give
+pub unpacked-packed : (a : Answer) → Small a → unpacked (packed a) ≡ a
+unfolding unpacked packed
+unpacked-packed a h =
+    let p = a .count * 65_536 + a .number * 256 + a .stage in
+    let number : p / 256 % 256 ≡ a .number = omega arith in
+    let stage : p % 256 ≡ a .stage = omega arith in
+    let count : p / 65_536 ≡ a .count = omega arith in
+    rw (number, stage, count)
+
+-- so that two of them are one where their numbers are
+pub one-answer : (a b : Answer) → Small a → Small b → packed a ≡ packed b → a ≡ b
+one-answer a b h g e = sym (unpacked-packed a h) ∙ ap unpacked e ∙ unpacked-packed b g
+
+-- a number that is such an answer's
+by-small : {p : ℕ} (a : Answer) → Small a → p ≡ packed a → unpacked p ≡ a
+by-small a h e = ap unpacked e ∙ unpacked-packed a h
+
+module _ {p : ℕ} where
+  pub make-unpacked : (n X T wanted : ℕ) (h e u buffer : List ℕ) → let a = makeFile n X T wanted h e u buffer .answer in p ≡ packed a → unpacked p ≡ a
+  make-unpacked n X T wanted h e u buffer z = by-small _ (make-answer n X T wanted h e u buffer) z
+
+  pub check-unpacked : (s : List ℕ) → p ≡ packed (checkFile s) → unpacked p ≡ checkFile s
+  check-unpacked s z = by-small _ (check-answer s) z
+
+  pub step-unpacked : (s poured : List ℕ) → let a = stepFile s poured .answer in p ≡ packed a → unpacked p ≡ a
+  step-unpacked s poured z = by-small _ (step-answer s poured) z
+
+  pub filter-unpacked : (s : List ℕ) → let a = filterFile s .answer in p ≡ packed a → unpacked p ≡ a
+  filter-unpacked s z = by-small _ (filter-answer s) z
+
+  pub run-unpacked : (most : ℕ) (s : List ℕ) → let a = runForFile most s .answer in p ≡ packed a → unpacked p ≡ a
+  run-unpacked most s z = by-small _ (run-answer most s) z
