@@ -1,7 +1,7 @@
 // node answer.mjs WASM CALLS ANSWERS: does each call of the file CALLS by include/pathpetal.mjs over the WebAssembly
 // file WASM, and writes what it left to the file ANSWERS. The records are those of record.h.
 import { closeSync, openSync, readFileSync, writeSync } from 'node:fs';
-import { load, Refusal } from '../include/pathpetal.mjs';
+import { load, Refusal } from '../../include/pathpetal.mjs';
 
 const [wasm, calls, answers] = process.argv.slice(2);
 const pathpetal = await load(readFileSync(wasm));

@@ -4,7 +4,7 @@ import assert from 'node:assert/strict';
 import { readFileSync } from 'node:fs';
 import { createServer } from 'node:http';
 import { pathToFileURL } from 'node:url';
-import { fileLength, load, reasons, Refusal, row } from '../include/pathpetal.mjs';
+import { fileLength, load, reasons, Refusal, row } from '../../include/pathpetal.mjs';
 
 const [wasm, header] = process.argv.slice(2);
 const bytes = readFileSync(wasm);
