@@ -186,9 +186,11 @@ def kills(options, begin, end, record, wanted, every, where):
                 known = f"channel {sha(data)} at step {counts(data)[1]}\n" \
                     f"record {sha(up_to(record, counts(data)[1]))} of".encode()
                 check(known in read("k.check.run"), "what stands beside the checkpoint knows it")
-                if good and os.path.exists("k.csv.open"):
-                    check(read("k.csv.open").startswith(up_to(record, counts(data)[1])),
-                        "the record has come as far as the checkpoint")
+                # under its own name where END was written too, and a run after that had only just begun its open record
+                so_far = up_to(record, counts(data)[1])
+                there = [read(name) for name in ("k.csv.open", "k.csv") if os.path.exists(name)]
+                check(not good or any(rows.startswith(so_far) for rows in there),
+                    "the record has come as far as the checkpoint")
             if draw.random() < 0.5:
                 cuts += 1
                 power_cut(draw, head)
