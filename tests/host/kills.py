@@ -66,11 +66,12 @@ def interrupted(options, begin, end, record, wanted, every, where):
     whole = time.monotonic() - began
     left = ("i.csv", "i.csv.open", *saved("i.check", "i.channel"))
     forget(*left)
-    stops = early = late = 0
+    stopped = {signal.SIGINT: 0, signal.SIGTERM: 0, signal.SIGHUP: 0}  # runs that each of them has stopped
+    early = late = 0
     for k in range(100):
-        if stops >= wanted:
+        if sum(stopped.values()) >= wanted and all(stopped.values()):
             break
-        name, tries, reached = (signal.SIGINT, signal.SIGTERM, signal.SIGHUP)[k % 3], 0, 0
+        name, tries, reached = list(stopped)[k % 3], 0, 0
         while True:
             tries += 1
             process = start(*command, *(("--replace",) if k % 4 == 3 else ()))
@@ -86,7 +87,7 @@ def interrupted(options, begin, end, record, wanted, every, where):
             if process.returncode == DONE:
                 late += tries <= 3
                 break
-            stops += 1
+            stopped[name] += 1
             check(process.returncode == INTERRUPTED, f"status {process.returncode}: {err!r}")
             check(re.search(rb"interrupted before step [\d,]+ of 3,000.*i.channel: open: [\d,]+ of 3,000 steps "
                 rb"accepted.*i.csv.open: holds the record so far.*to go on: give the same command again\n$", err, re.S),
@@ -105,7 +106,8 @@ def interrupted(options, begin, end, record, wanted, every, where):
         go(*command, tells=r"i.channel: complete: all 3,000 steps accepted \(it was there already\)")
         check(listing() == before, "a run that is complete writes nothing")
         forget(*left)
-    check(stops >= wanted, f"only {stops} runs were interrupted on their way")
+    stops = sum(stopped.values())
+    check(stops >= wanted and all(stopped.values()), f"only these were interrupted on their way: {stopped}")
     tested.notes.append(f"{where}: interrupted on their way: {stops}; before they listened: {early}; after they were "
         f"complete: {late}")
     ignored(options, end, whole)
