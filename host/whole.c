@@ -350,12 +350,22 @@ struct place work_place(const char *use, const char *path)
     return place;
 }
 
-static bool same_place(const struct place *a, const struct place *b)
+static bool same_name(const struct place *a, const struct place *b)
 {
-    if (a->there && b->there && a->device == b->device && a->file == b->file)
-        return true;
     return a->folder == b->folder && a->folder_device == b->folder_device && strcmp(a->name, b->name) == 0;
 }
+
+/* Whether two names are of one file, also when they are looked at again. A file that another run has just written over
+   may have handed on its number to a new one: then the first of the two has another by now. */
+static bool same_file(const struct place *a, const struct place *b)
+{
+    struct stat first, second, again;
+    return a->there && b->there && a->device == b->device && a->file == b->file && stat(a->path, &first) == 0 &&
+           stat(b->path, &second) == 0 && stat(a->path, &again) == 0 && first.st_ino == second.st_ino &&
+           first.st_dev == second.st_dev && again.st_ino == first.st_ino && again.st_dev == first.st_dev;
+}
+
+static bool same_place(const struct place *a, const struct place *b) { return same_name(a, b) || same_file(a, b); }
 
 static enum status output_allowed(const struct place *place, bool replace)
 {

@@ -183,6 +183,20 @@ def raced(begin, end, record):
         status, err = ended(process)
         check(status == REFUSED and "c.check: its last steps were taken with other options" in err,
             f"START written over meanwhile, file {k} held: {status}, {err}")
+    # names that are looked at one after the other, while files that lose theirs hand on their numbers
+    words = ["run", "slow.channel", "-o", "c.end", "--filter-every", "7", "--checkpoint", "c.check",
+        "--checkpoint-every", "5"]
+    looks = "trace=?stat,?newfstatat,?statx"
+    subprocess.run(["strace", "-o", "t.trace", "-e", looks, tested.program, *words], env=ENVIRONMENT,
+        stdout=subprocess.DEVNULL, stderr=subprocess.DEVNULL)
+    lines = read("t.trace").decode().splitlines()
+    at = [at for at, line in enumerate(lines) if '"c.check.run"' in line][0]
+    for k in range(40):
+        status, err = ended(subprocess.Popen(["strace", "-o", "/dev/null", "-e", looks, "-e",
+            f"inject={call(lines[at])}:delay_enter={2000 + 500 * k}:when={count(at)}", tested.program, *words],
+            env=ENVIRONMENT, stdout=subprocess.PIPE, stderr=subprocess.PIPE))
+        check(status == REFUSED and "c.end.run: another run is writing it" in err,
+            f"the checkpoint and what stands beside it are written meanwhile: {status}, {err}")
     writing.kill()
     writing.communicate()
     forget(*saved("c.end", "c.check", "d.end"), "slow.channel", *parts_left())

@@ -35,7 +35,7 @@ def end_while_it_waits(name, line, waits, begun, begin):
     waited = process.poll() is None
     process.send_signal(name)
     try:
-        process.wait(timeout=1)
+        process.wait(timeout=10)
     except subprocess.TimeoutExpired:
         process.kill()
     _, err = process.communicate(timeout=60)

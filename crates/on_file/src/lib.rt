@@ -1,5 +1,5 @@
-// The calls over the bytes of a channel file: each is one walk. Each
-// contract says last that what is lent are bytes, as the language knows of any `[u8]`: theorems about outcomes go by contracts.
+// The calls over the bytes of a channel file: a check is the reader's, each other call is one walk. Each contract says last that
+// what is lent are bytes, as the language knows of any `[u8]`: theorems about outcomes go by contracts.
 ghost use mathlib.Core.Path.{_≡_};
 ghost use lib.ListN.{length, take};
 ghost use Rattle.rule.specs.Calls.{checkFile, stepFile, filterFile, runForFile, runFile};

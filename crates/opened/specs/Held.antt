@@ -11,7 +11,7 @@ use Rattle.rule.specs.Rows.{Row, all}
 use Rattle.rule.specs.Ranges.{leastCells, mostCells, between, cellsAllowed}
 use Rattle.rule.specs.Channel.{lengths}
 use Rattle.rule.specs.Checks.{long, shaped}
-use Rattle.rule.specs.Bytes.{countAt, rowAt}
+use Rattle.rule.specs.Bytes.{rowAt}
 use Rattle.rule.specs.Layout.{lengthOf}
 use Rattle.rule.specs.File.{edition, leastLength, countOf, channelOf}
 use Rattle.rule.specs.Calls.{rowIn, holds}

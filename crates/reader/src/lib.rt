@@ -10,7 +10,7 @@ ghost use Rattle.form.specs.Reader.{fitsIn, bodyTests};
 ghost use Rattle.opened.specs.Held.{Begun, Formed};
 ghost use Rattle.opened.specs.Fitting.{Opens};
 
-// 1 to 5 of the channel of such a file, and of the row w where it is poured.
+// 1 to 5 of the channel of a file whose form is right, and of the row w where it is poured.
 fn check_opened(
     s: &[u8],
     h: &mut [i64],

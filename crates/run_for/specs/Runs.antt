@@ -6,8 +6,8 @@ use mathlib.Core.Bool.{Bool, true, false, cond}
 use mathlib.Core.List.{[], _∷_}
 use native.Mathlib.Numerals.{add-one}
 use native.Mathlib.Omega.{arith}
-use borrow.Author.Tests.{ltb-true, lt-ltb, le-ltb, eq-eqb, ne-eqb}
-use lib.Dec.{ltb, eqb}
+use borrow.Author.Tests.{ltb-true, lt-ltb, le-ltb}
+use lib.Dec.{ltb}
 use lib.IntN.{pos}
 use lib.ListN.{length, take, replicate}
 use Rattle.rule.specs.declared.Answer.{Answer}
@@ -17,7 +17,7 @@ use Rattle.rule.specs.Refusals.{Refusal, number, numberOf, Outcome, refused, do
 use Rattle.rule.specs.Checks.{checked, isComplete}
 use Rattle.rule.specs.Step.{Stepped, step}
 use Rattle.rule.specs.Run.{Ending, Ran, whole, open-by, paused, runOn, run, runFor}
-use Rattle.rule.specs.Calls.{Called, called, moreSteps, stepCall, ended, ran, runCall, runForCall}
+use Rattle.rule.specs.Calls.{Called, called, stepCall, ended, ran, runCall, runForCall}
 use Rattle.rule.specs.Ranges.{mostCells, mostSteps}
 use Rattle.answers.specs.Stages.{leaves, stageOf, stage-none}
 use Rattle.answers.specs.Ends.{endingOf}

@@ -1,4 +1,4 @@
-// A step over lent rows: a prediction, and corrections until they settle.
+// A step over lent rows: tried, and stored where it is accepted.
 ghost use mathlib.Core.Path.{_≡_};
 ghost use Rattle.rule.specs.Counted.{counted, left};
 ghost use Rattle.rule.specs.Calls.{stepCall};

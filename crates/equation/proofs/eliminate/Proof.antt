@@ -1,5 +1,5 @@
 -- `equation::eliminate` meets its contract. Assumes nothing.
-use Rattle.coefficients.proofs.Laws.{kept-is, no-pivot-is}
+use Rattle.equation.proofs.Laws.{kept-is, no-pivot-is}
 use Rattle.equation.proofs.eliminate.Statement.{statement}
 use Rattle.equation.proofs.eliminate.Tie as tie
 

@@ -12,7 +12,8 @@ use mir.ValLaws.{toZ-pos}
 use Rattle.rule.specs.Floats.{whole, _⊗_}
 use Rattle.rule.specs.Solve.{equation}
 use Rattle.rule.specs.Ranges.{mostReduced}
-use Rattle.coefficients.proofs.Laws.{read-small, float-is}
+use Rattle.coefficients.proofs.Laws.{read-small}
+use Rattle.equation.proofs.Laws.{float-is}
 use Rattle.equation.proofs.equation.Statement.{statement}
 use Rattle.equation.proofs.equation.Tie as tie
 

@@ -1,7 +1,7 @@
 -- `equation::exact` meets its contract. Assumes nothing.
 use borrow.Author.Needs.{needs}
 use Rattle.whole.specs.Expr.{back}
-use Rattle.coefficients.proofs.Laws.{in-float}
+use Rattle.equation.proofs.Laws.{in-float}
 use Rattle.equation.proofs.exact.Statement.{statement}
 use Rattle.equation.proofs.exact.Tie as tie
 

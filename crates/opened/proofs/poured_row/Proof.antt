@@ -2,7 +2,6 @@
 use mathlib.Core.Path.{_≡_, ap, subst, _∙_}
 use mathlib.Core.Bool.{true}
 use native.Mathlib.Omega.{arith}
-use borrow.Author.Needs.{needs}
 use Rattle.whole.specs.Row.{zeros, padded}
 use Rattle.opened.specs.Held.{poured-bytes, poured-is, pouredArray}
 use Rattle.form.specs.Reader.{fitsIn}
