@@ -23,10 +23,10 @@ typedef struct second_answer stepper(struct channel *);
 
 static struct second_answer library_step(struct channel *c)
 {
-    uint64_t stage, count;
+    uint64_t stage, place, count;
     uint64_t number = lent_step(c->N, c->X, c->T, &c->accepted, c->wanted, c->h, c->N, c->e, c->N, c->u, c->N, c->V, c->N,
-                                c->Q, 3 * (c->N - 1), c->F, 3 * c->N, c->s, c->N, &stage, &count);
-    return (struct second_answer){(unsigned)number, (unsigned)stage, count};
+                                c->Q, 3 * (c->N - 1), c->F, 3 * c->N, c->s, c->N, &stage, &place, &count);
+    return (struct second_answer){(unsigned)number, (unsigned)stage, (unsigned)place, count};
 }
 
 static struct second_channel lend(struct channel *c)

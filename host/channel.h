@@ -1,11 +1,11 @@
-/* channel.h: channel files read, and the library's refusals in words. */
+/* channel.h: channel files read, and how they stand. */
 #ifndef CHANNEL_H
 #define CHANNEL_H
 
 #include "pathpetal.h"
 #include "say.h"
 
-/* What a channel may hold, to name the line or option at fault; the library decides again. */
+/* What a channel may hold, to name the option or the line of a table at fault; the library decides again. */
 enum {
     CELLS_LEAST = 8,
     CELLS_MOST = 256,
@@ -15,12 +15,8 @@ enum {
     STEP_MOST = 100,
     STEPS_LEAST = 1,
     STEPS_MOST = 1000000,
-    DEPTH_LEAST = 1, /* mm */
-    DEPTH_MOST = 20000,
-    HEIGHT_MOST = 20000000,   /* um, either way */
-    VELOCITY_MOST = 20000000, /* um/s, either way */
-    POURED_MOST = 1000000,    /* um, either way */
-    WATER_LEAST = 1000        /* um of water over the bottom */
+    HEIGHT_MOST = 20000000, /* um, either way, in a staff record */
+    POURED_MOST = 1000000   /* um, either way, in a table of poured water */
 };
 
 /* The bytes of a file that was read: room for more than the longest channel, so that a longer file is refused by its
@@ -33,19 +29,8 @@ struct channel {
 /* Reads a file, whatever it holds. */
 enum status channel_bytes(const char *path, struct channel *channel);
 
-/* Reads a channel file that the library takes; else says why it is refused. */
+/* Reads a channel file that the library takes; else says why it is refused, and in which cell. */
 enum status channel_read(const char *path, struct channel *channel);
-
-/* What a refusal says, and what to mend in a survey; never NULL. */
-const char *refusal_words(unsigned number);
-const char *refusal_mend(unsigned number);
-
-/* Says what to mend in a run whose step or filter pass was refused: the time step first, where it is longer than
-   docs/CHOOSING.md advises; `poured` is whether water was poured into the step. */
-void say_mend(const uint8_t *file, unsigned number, bool poured);
-
-/* Where in a step: "in its prediction or before it", "in its correction 3". */
-struct shown stage_words(unsigned stage);
 
 /* "complete: all 6,000 steps accepted" or "open: 5,400 of 6,000 steps accepted" */
 struct standing {

@@ -32,21 +32,35 @@ static bool same_name(const char *a, const char *b)
     return *a == *b;
 }
 
-enum status csv_wrong(const struct csv *csv, long column, const char *format, ...)
+static void say_wrong(const struct csv *csv, unsigned long line, long column, const char *format, va_list arguments)
 {
     struct text what = {0};
-    va_list arguments;
-    text_add(&what, "%s: line %lu", csv->path, csv->line);
+    text_add(&what, "%s: line %lu", csv->path, line);
     if (column >= 0)
         text_add(&what, ", column %ld", column + 1);
     if (column >= 0 && (size_t)column < csv->columns)
         text_add(&what, " (%s)", SHOWN(csv->names[column]));
     text_add(&what, ": ");
-    va_start(arguments, format);
     text_add_list(&what, format, arguments);
-    va_end(arguments);
     say("%s", what.at);
     free(what.at);
+}
+
+enum status csv_wrong(const struct csv *csv, long column, const char *format, ...)
+{
+    va_list arguments;
+    va_start(arguments, format);
+    say_wrong(csv, csv->line, column, format, arguments);
+    va_end(arguments);
+    return STATUS_REFUSED;
+}
+
+enum status csv_wrong_on(const struct csv *csv, unsigned long line, long column, const char *format, ...)
+{
+    va_list arguments;
+    va_start(arguments, format);
+    say_wrong(csv, line, column, format, arguments);
+    va_end(arguments);
     return STATUS_REFUSED;
 }
 

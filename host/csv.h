@@ -42,8 +42,11 @@ enum status csv_row(struct csv *csv, bool *more);
 /* The place of a column, from 0; -1 if there is none. Capitals count as small letters. */
 long csv_column(const struct csv *csv, const char *name);
 
-/* Says what is wrong in a column of the row at hand (from 0, or -1 for the whole line); is STATUS_REFUSED. */
+/* Says what is wrong in a column of the row at hand (from 0, or -1 for the whole line), or of a line that was read; is
+   STATUS_REFUSED. */
 enum status csv_wrong(const struct csv *csv, long column, const char *format, ...) LIKE_PRINTF(3, 4);
+enum status csv_wrong_on(const struct csv *csv, unsigned long line, long column, const char *format, ...)
+    LIKE_PRINTF(4, 5);
 
 /* The field of a column as a whole number within bounds, or what is wrong with it. */
 enum status csv_number(const struct csv *csv, long column, int64_t lowest, int64_t highest, int64_t *number);

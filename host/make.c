@@ -1,8 +1,8 @@
 /* make.c: from a survey to the file of a new channel. */
-#include "channel.h"
 #include "commands.h"
 #include "csv.h"
 #include "options.h"
+#include "refusal.h"
 #include "text.h"
 #include "whole.h"
 
@@ -11,10 +11,10 @@
 
 static const char usage[] = "pathpetal make SURVEY.csv -o START --width-mm MM --step-ms MS --steps N [--replace]";
 
-/* A survey: a number for each cell, and the line it stands on. */
+/* A survey: rows of numbers as the library takes them, and the line on which each cell stands. */
 struct survey {
     size_t cells;
-    int64_t depth[CELLS_MOST], height[CELLS_MOST], velocity[CELLS_MOST];
+    uint8_t depths[4 * CELLS_MOST], heights[4 * CELLS_MOST], velocities[4 * CELLS_MOST];
     unsigned long line[CELLS_MOST];
 };
 
@@ -60,13 +60,26 @@ static enum status find_columns(const struct csv *csv, struct columns *columns)
     return STATUS_DONE;
 }
 
-/* A number that may be left out: an empty field is 0. */
-static enum status optional_number(const struct csv *csv, long column, int64_t most, int64_t *number)
+/* Puts a field into a row, if it is a whole number that fits there. Its range is for the library to tell, by the
+   refusal that is named. */
+static enum status take_number(const struct csv *csv, long column, unsigned refusal, uint8_t *at)
 {
-    *number = 0;
+    int64_t number = 0;
+    enum status status;
+    if (read_number(csv->fields[column], INT32_MIN, INT32_MAX, &number) == NUMBER_OUTSIDE)
+        return csv_wrong(csv, column, "%s, not %s", refusal_words(refusal), SHOWN(csv->fields[column]));
+    status = csv_number(csv, column, INT32_MIN, INT32_MAX, &number);
+    put_signed(at, number);
+    return status;
+}
+
+/* The same of a number that may be left out: an empty field is 0. */
+static enum status take_optional(const struct csv *csv, long column, unsigned refusal, uint8_t *at)
+{
+    put_signed(at, 0);
     if (column < 0 || csv->fields[column][0] == '\0')
         return STATUS_DONE;
-    return csv_number(csv, column, -most, most, number);
+    return take_number(csv, column, refusal, at);
 }
 
 static enum status take_row(const struct csv *csv, const struct columns *columns, struct survey *survey)
@@ -85,11 +98,11 @@ static enum status take_row(const struct csv *csv, const struct columns *columns
                              GROUPED(numbered), cell + 1);
     }
     survey->line[cell] = csv->line;
-    status = csv_number(csv, columns->depth, DEPTH_LEAST, DEPTH_MOST, &survey->depth[cell]);
+    status = take_number(csv, columns->depth, PATHPETAL_BAD_DEPTH, survey->depths + 4 * cell);
     if (status == STATUS_DONE)
-        status = optional_number(csv, columns->height, HEIGHT_MOST, &survey->height[cell]);
+        status = take_optional(csv, columns->height, PATHPETAL_BAD_HEIGHT, survey->heights + 4 * cell);
     if (status == STATUS_DONE)
-        status = optional_number(csv, columns->velocity, VELOCITY_MOST, &survey->velocity[cell]);
+        status = take_optional(csv, columns->velocity, PATHPETAL_BAD_VELOCITY, survey->velocities + 4 * cell);
     if (status == STATUS_DONE)
         survey->cells++;
     return status;
@@ -115,56 +128,30 @@ static enum status read_survey(struct csv *csv, const char *path, struct survey 
     return status;
 }
 
-static int64_t size_of(int64_t number)
+/* The column to look at for a refusal. */
+static long column_of(const struct columns *columns, unsigned number)
 {
-    return number < 0 ? -number : number;
+    switch (number) {
+    case PATHPETAL_BAD_VELOCITY: return columns->velocity;
+    case PATHPETAL_BAD_HEIGHT:
+    case PATHPETAL_DEPTH: return columns->height;
+    default: return columns->depth;
+    }
 }
 
-/* The first cell that is too steep, by the rule's coefficients: the middle one must be greater than both others
-   together. The number of cells if there is none. */
-static size_t steep_cell(const struct survey *survey, int64_t width)
+/* Says a refusal of the library, with the line and column to look at where it names a cell. */
+static void say_refusal(const struct csv *csv, const struct columns *columns, const struct survey *survey,
+                        uint64_t answer)
 {
-    const int64_t *h = survey->depth;
-    size_t last = survey->cells - 1, cell;
-    for (cell = 0; cell <= last; cell++) {
-        int64_t own = h[cell] * h[cell], b = 10000000 * width * width + 7800390 * own, a = 0, c = 0;
-        if (cell > 0)
-            a = h[cell] * (1409805 * h[cell] - 5310000 * h[cell - 1]);
-        if (cell < last)
-            c = h[cell] * (1409805 * h[cell] - 5310000 * h[cell + 1]);
-        if (cell == 0 || cell == last)
-            b += 3900195 * own;
-        if (b <= size_of(a) + size_of(c))
-            break;
-    }
-    return cell;
-}
-
-/* Says a refusal of the library, with the line to look at where one can be named. */
-static void say_refusal(const char *path, const struct survey *survey, int64_t width, unsigned number)
-{
-    say("%s: refused, number %u: %s", path, number, refusal_words(number));
-    if (number == PATHPETAL_DEPTH)
-        for (size_t cell = 0; cell < survey->cells; cell++)
-            if (1000 * survey->depth[cell] + survey->height[cell] < WATER_LEAST) {
-                say("line %lu, cell %zu: depth %s mm with height %s um leaves less than 1 mm of water",
-                    survey->line[cell], cell + 1, GROUPED(survey->depth[cell]), GROUPED(survey->height[cell]));
-                break;
-            }
-    if (number == PATHPETAL_DOMINANCE) {
-        size_t cell = steep_cell(survey, width);
-        if (cell < survey->cells)
-            say("line %lu, cell %zu: the first that is too steep, with a depth of %s mm", survey->line[cell], cell + 1,
-                GROUPED(survey->depth[cell]));
-    }
+    struct rows rows = {survey->cells, survey->depths, survey->heights, survey->velocities, NULL};
+    unsigned number = pathpetal_number(answer), place = pathpetal_place(answer);
+    if (place > 0)
+        csv_wrong_on(csv, survey->line[place - 1], column_of(columns, number), "%s%s (refused, number %u%s)",
+                     refusal_words(number), refusal_found(answer, &rows).text, number, refusal_place(answer).text);
+    else
+        say("%s: refused, number %u: %s", csv->path, number, refusal_words(number));
     say("to mend: %s", refusal_mend(number));
-}
-
-/* A row as the library takes it: 4 bytes a cell. */
-static void fill(uint8_t *row, const int64_t *numbers, size_t cells)
-{
-    for (size_t cell = 0; cell < cells; cell++)
-        put_signed(row + 4 * cell, numbers[cell]);
+    say("nothing is written");
 }
 
 /* The columns that were not used, so that a misspelt one is seen. */
@@ -188,22 +175,15 @@ static void tell_unused(const struct csv *csv, const struct columns *columns)
 static enum status make_file(const struct csv *csv, const struct columns *columns, const struct survey *survey,
                              const int64_t counts[3], const char *path, bool replace)
 {
-    uint8_t depths[4 * CELLS_MOST], heights[4 * CELLS_MOST], velocities[4 * CELLS_MOST];
     size_t cells = survey->cells, row = 4 * cells, length = pathpetal_length(cells);
     uint8_t *file = room_for(length, 1);
-    unsigned number;
     enum status status = STATUS_REFUSED;
-    fill(depths, survey->depth, cells);
-    fill(heights, survey->height, cells);
-    fill(velocities, survey->velocity, cells);
-    number = pathpetal_number(pathpetal_make(cells, (uint64_t)counts[0], (uint64_t)counts[1], (uint64_t)counts[2],
-                                             depths, row, heights, row, velocities, row, file, length));
-    if (number != PATHPETAL_DONE) {
-        say_refusal(csv->path, survey, counts[0], number);
-        say("nothing is written");
-    } else {
+    uint64_t answer = pathpetal_make(cells, (uint64_t)counts[0], (uint64_t)counts[1], (uint64_t)counts[2],
+                                     survey->depths, row, survey->heights, row, survey->velocities, row, file, length);
+    if (pathpetal_number(answer) != PATHPETAL_DONE)
+        say_refusal(csv, columns, survey, answer);
+    else
         status = whole_write(path, file, length, &(struct over){.any = replace});
-    }
     if (status == STATUS_DONE) {
         tell("%s: %zu cells of %s mm, %s steps of %s ms wanted", path, cells, GROUPED(counts[0]),
              GROUPED(counts[2]), GROUPED(counts[1]));

@@ -4,11 +4,11 @@
    filter pass belongs to the step that follows it: both happen, or neither is kept. So a run that goes on from a
    saved file does what one run in one go would have done. What the same run has left when it was cut is known by what
    stands beside it, and is gone on with. */
-#include "channel.h"
 #include "commands.h"
 #include "options.h"
 #include "pour.h"
 #include "record.h"
+#include "refusal.h"
 #include "saves.h"
 
 #include <signal.h>
@@ -44,8 +44,8 @@ struct run {
 /* Why a run ended. */
 struct ending {
     enum status status;
-    bool in_filter;          /* the refusal was met in a filter pass */
-    unsigned number, stage;  /* of the refusal */
+    bool in_filter;  /* the refusal was met in a filter pass */
+    uint64_t answer; /* of the refused call */
 };
 
 /* The signal that asked the run to end; 0 for none. */
@@ -138,7 +138,7 @@ static void advance(struct run *run, struct ending *ending)
         memcpy(run->unfiltered.bytes, channel->bytes, channel->length);
         answer = pathpetal_filter(channel->bytes, channel->length);
         if (pathpetal_number(answer) != PATHPETAL_DONE) {
-            *ending = (struct ending){STATUS_OPEN, true, pathpetal_number(answer), pathpetal_stage(answer)};
+            *ending = (struct ending){STATUS_OPEN, true, answer};
             return;
         }
     }
@@ -150,7 +150,7 @@ static void advance(struct run *run, struct ending *ending)
         answer = pathpetal_run(channel->bytes, channel->length, steps);
     }
     if (pathpetal_number(answer) != PATHPETAL_DONE && pathpetal_number(answer) != PATHPETAL_MORE)
-        *ending = (struct ending){STATUS_OPEN, false, pathpetal_number(answer), pathpetal_stage(answer)};
+        *ending = (struct ending){STATUS_OPEN, false, answer};
     if (pathpetal_accepted(channel->bytes) != before)
         return;
     if (filtered)
@@ -206,23 +206,36 @@ static struct ending take_steps(struct run *run)
     return ending;
 }
 
+/* Where in the channel a step or filter pass was refused: ", in cell 17, 33.000 m from the left wall" to the middle of
+   the cell; nothing where no cell is named. */
+static struct standing place_along(const uint8_t *file, uint64_t answer)
+{
+    struct standing out = {{0}};
+    uint64_t cell = pathpetal_place(answer);
+    if (cell > 0)
+        snprintf(out.text, sizeof out.text, "%s, %s m from the left wall", refusal_place(answer).text,
+                 THOUSANDTHS((int64_t)((2 * cell - 1) * pathpetal_width_mm(file) / 2)));
+    return out;
+}
+
 /* Says why the run is not complete. */
 static void say_ending(const struct run *run, const struct ending *ending)
 {
     const uint8_t *file = run->channel.bytes;
     uint32_t step = pathpetal_accepted(file) + 1, wanted = pathpetal_wanted(file);
+    unsigned number = pathpetal_number(ending->answer), stage = pathpetal_stage(ending->answer);
     if (ending->status == STATUS_INTERRUPTED)
         say("interrupted before step %s of %s", GROUPED(step), GROUPED(wanted));
     if (ending->status != STATUS_OPEN)
         return;
     if (ending->in_filter)
-        say("the filter pass before step %s of %s was refused (number %u): %s", GROUPED(step), GROUPED(wanted),
-            ending->number, refusal_words(ending->number));
+        say("the filter pass before step %s of %s was refused (number %u)%s: %s", GROUPED(step), GROUPED(wanted),
+            number, place_along(file, ending->answer).text, refusal_words(number));
     else
-        say("step %s of %s was refused %s (number %u, stage %u): %s", GROUPED(step), GROUPED(wanted),
-            stage_words(ending->stage).text, ending->number, ending->stage, refusal_words(ending->number));
+        say("step %s of %s was refused %s (number %u, stage %u)%s: %s", GROUPED(step), GROUPED(wanted),
+            stage_words(stage).text, number, stage, place_along(file, ending->answer).text, refusal_words(number));
     /* a filter pass meets what was poured into the step before it */
-    say_mend(file, ending->number, pours_into(&run->pour, ending->in_filter ? step - 1 : step));
+    say_mend(file, ending->answer, pours_into(&run->pour, ending->in_filter ? step - 1 : step));
 }
 
 /* Writes END; *holds is whether it then holds the channel at hand, and not one that the same run has left further on.

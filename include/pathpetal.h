@@ -7,10 +7,13 @@
    Every call ends, for any bytes of any length, in the rule's result or in one numbered refusal, and a refused
    call leaves every byte as it was.
 
-   THE ANSWER is one 64-bit number: count * 65536 + number * 256 + stage.
+   THE ANSWER is one 64-bit number: count * 33554432 + place * 65536 + number * 256 + stage.
      number  0 when the call did what was asked, else why it did not: see the list below
      stage   of a step, and of the step that ended a run: where it was refused, 0 for the prediction and for
              everything before it, 1 to 10 for that correction; 0 in all other calls
+     place   of 4, 5 and 31 to 37: the lowest cell at fault, of 35 the lowest face, counted from 1 at the left wall;
+             face j lies between cells j and j + 1. Each row is looked at wholly before the next, and flux and
+             acceleration level by level, the newest first: the place is one in that level. 0 of all other numbers
      count   of a step: how many corrections it took, 1 to 10; of a run: how many steps it accepted, also when it
              then met a refusal; else 0
 
@@ -39,8 +42,6 @@ enum pathpetal_reason {
     PATHPETAL_SHAPE = 1,      /* not 8 to 256 cells, or a row beside the file has not one entry for each cell */
     PATHPETAL_COUNTS = 2,     /* cell width not 10 to 5,000 mm, time step not 1 to 100 ms, steps wanted not 1 to
                                  1,000,000, or more accepted than wanted */
-    PATHPETAL_VALUE = 3,      /* a depth not 1 to 20,000 mm, a height or a velocity beyond 20 m or 20 m/s, a
-                                 poured amount beyond 1 m, or another stored value out of its range */
     PATHPETAL_DEPTH = 4,      /* a cell has less than 1 mm of water: it fell dry, or nearly so */
     PATHPETAL_DOMINANCE = 5,  /* the bottom is too steep for cells this narrow: take wider cells or smooth it */
     PATHPETAL_PIVOT = 6,      /* the velocities cannot be worked out; no file is known that meets this */
@@ -53,13 +54,20 @@ enum pathpetal_reason {
     PATHPETAL_EDITION = 13,   /* not a channel file of edition 1 */
     PATHPETAL_OFFSETS = 14,   /* the file's rows do not stand where they must */
     PATHPETAL_BUFFER = 15,    /* the room for the file is not exactly 24 + 64 * cells bytes */
-    PATHPETAL_MORE = 16       /* a run only: as many steps were taken as this call allowed, and the channel is not
+    PATHPETAL_MORE = 16,      /* a run only: as many steps were taken as this call allowed, and the channel is not
                                  complete; call again to go on */
+    PATHPETAL_BAD_DEPTH = 31,        /* a depth is not 1 to 20,000 mm */
+    PATHPETAL_BAD_HEIGHT = 32,       /* a height is not within 20,000,000 um */
+    PATHPETAL_BAD_VELOCITY = 33,     /* a velocity is not within 20,000,000 um/s */
+    PATHPETAL_BAD_REDUCED = 34,      /* a reduced velocity is not within 2,000,000,000 um/s */
+    PATHPETAL_BAD_FLUX = 35,         /* a flux is not within 10^15 um2/s */
+    PATHPETAL_BAD_ACCELERATION = 36, /* an acceleration is not within 10^11 um/s2 */
+    PATHPETAL_BAD_POURED = 37        /* a poured amount is not within 1,000,000 um */
 };
 
 /* Makes the file of a new channel, with no step accepted, in the file_len bytes at file: exactly
    pathpetal_length(cells). depths, heights and velocities hold 4 bytes for each cell, signed and little-endian
-   (mm, um, um/s). Refused: 1, 2, 3, 4, 5, 15, 7, 9, the first that holds in this order. */
+   (mm, um, um/s). Refused: 1, 2, 31, 32, 33, 4, 5, 15, 7, 9, the first that holds in this order. */
 uint64_t pathpetal_make(uint64_t cells, uint64_t width_mm, uint64_t step_ms, uint64_t wanted,
                         const uint8_t *depths, size_t depths_len,
                         const uint8_t *heights, size_t heights_len,
@@ -67,13 +75,13 @@ uint64_t pathpetal_make(uint64_t cells, uint64_t width_mm, uint64_t step_ms, uin
                         uint8_t *file, size_t file_len);
 
 /* Whether these bytes are a channel file that every other call will take. Refused: 12 (shorter than its head), 13,
-   1, 12 (not the length for its cells), 14, 2, 3, 4, 5. */
+   1, 12 (not the length for its cells), 14, 2, 31, 32, 33, 34, 35, 36, 4, 5. */
 uint64_t pathpetal_check(const uint8_t *file, size_t file_len);
 
 /* One step, with an amount of water poured into each cell: poured holds 4 bytes for each cell (um, within
    1,000,000), all zeros to pour nothing. The file becomes that of the channel after the step. Refused as by
-   pathpetal_check, the poured row's length with 1 and its amounts with 3; then 11; then at a stage 8, 4, 7, 6, 7,
-   9; then 10. */
+   pathpetal_check, the poured row's length with 1, and its amounts with 37, between 36 and 4; then 11; then at a stage
+   8, 4, 7, 6, 7, 9; then 10. */
 uint64_t pathpetal_step(uint8_t *file, size_t file_len, const uint8_t *poured, size_t poured_len);
 
 /* One filter pass: smooths what is only a few cells long, and moves no water in or out. Refused as by
@@ -83,19 +91,20 @@ uint64_t pathpetal_filter(uint8_t *file, size_t file_len);
 /* Steps with nothing poured, until the channel is complete, a step is refused, or `most` steps were accepted by
    this call: a host calls again and again, and may stop, save or show the file between calls. The file keeps every
    accepted step. number is 0 exactly when the channel is complete; 16 when it is not and no step was refused; else
-   the refused step's number, with its stage; and count is what this call accepted. Bytes that pathpetal_check
-   refuses are refused by the same number and stay as they are. */
+   the refused step's number, with its stage and its place; and count is what this call accepted. Bytes that
+   pathpetal_check refuses are refused by the same number and place and stay as they are. */
 uint64_t pathpetal_run(uint8_t *file, size_t file_len, uint64_t most);
 
 /* The parts of an answer. */
 static inline unsigned pathpetal_number(uint64_t answer) { return (unsigned)(answer / 256 % 256); }
 static inline unsigned pathpetal_stage(uint64_t answer) { return (unsigned)(answer % 256); }
-static inline uint64_t pathpetal_count(uint64_t answer) { return answer / 65536; }
+static inline unsigned pathpetal_place(uint64_t answer) { return (unsigned)(answer / 65536 % 512); }
+static inline uint64_t pathpetal_count(uint64_t answer) { return answer / 33554432; }
 
 /* The length of a channel's file. */
 static inline size_t pathpetal_length(size_t cells) { return 24 + 64 * cells; }
 
-/* Reading from the bytes of a file that pathpetal_check takes. */
+/* Reading from the bytes of a file that pathpetal_check takes, or refuses with 4, 5 or 31 to 36. */
 static inline uint32_t pathpetal_word(const uint8_t *at)
 {
     return (uint32_t)at[0] | (uint32_t)at[1] << 8 | (uint32_t)at[2] << 16 | (uint32_t)at[3] << 24;
@@ -114,7 +123,7 @@ static inline int pathpetal_complete(const uint8_t *file)
 {
     return pathpetal_accepted(file) == pathpetal_wanted(file);
 }
-/* of cell 0 to cells - 1 */
+/* of cell 0 to cells - 1: the place of an answer, less 1 */
 static inline int32_t pathpetal_depth_mm(const uint8_t *file, size_t cell)
 {
     return pathpetal_signed(file + 48 + 4 * cell);

@@ -15,9 +15,9 @@
 //     if (!answer.complete) console.log(answer.words);
 //
 // Every call ends in the rule's result or in one numbered refusal, and a refused call leaves every byte of the
-// caller's as it was. make, check, step, filter and read throw a refusal as a Refusal. run does not: the steps that
-// it accepted before a refused one are kept in the file, so it gives an answer with their count, and `complete` in it
-// is true only if all wanted steps are taken.
+// caller's as it was. make, check, step, filter and read throw a refusal as a Refusal, whose message names the cell or
+// face at fault where there is one. run does not: the steps that it accepted before a refused one are kept in the file,
+// so it gives an answer with their count, and `complete` in it is true only if all wanted steps are taken.
 //
 // What C could not be given either is no refusal but an error of the language: a TypeError where bytes are no
 // Uint8Array, a RangeError where a count is no whole number from 0 to 2^53 - 1, or to 2^64 - 1 as a bigint.
@@ -31,44 +31,53 @@ const ROW_MOST = 4 * 256;
 
 /** Bytes in a page of WebAssembly memory, and where in the page that is kept for them a file and three rows are lent. */
 const PAGE = 65536;
-const PLACES = [0, 20480, 22528, 24576];
+const STARTS = [0, 20480, 22528, 24576];
 
 /** Node's own module of files, which a page never asks for. */
 const NODE_FILES = 'node:fs/promises';
 
-/** Why a call did not do what was asked, by number: the words of pathpetal.h. */
-export const reasons = Object.freeze([
-    '',
-    'not 8 to 256 cells, or a row beside the file has not one entry for each cell',
-    'cell width not 10 to 5,000 mm, time step not 1 to 100 ms, steps wanted not 1 to 1,000,000, or more accepted than wanted',
-    'a depth not 1 to 20,000 mm, a height or a velocity beyond 20 m or 20 m/s, a poured amount beyond 1 m, or another stored value out of its range',
-    'a cell has less than 1 mm of water: it fell dry, or nearly so',
-    'the bottom is too steep for cells this narrow: take wider cells or smooth it',
-    'the velocities cannot be worked out; no file is known that meets this',
-    'the water became faster than 20 m/s',
-    'the water rose or fell by more than 20 m',
-    'more water through a face than the file can hold',
-    'ten corrections did not settle: take a shorter time step or wider cells',
-    'all wanted steps are already taken: nothing is left to step or filter',
-    'the file is cut short, too long, or no channel file',
-    'not a channel file of edition 1',
-    "the file's rows do not stand where they must",
-    'the room for the file is not exactly 24 + 64 * cells bytes',
-    'a run only: as many steps were taken as this call allowed, and the channel is not complete; call again to go on',
-]);
+/**
+ * Why a call did not do what was asked, by number: the words of pathpetal.h.
+ * @type {Readonly<Record<number, string>>}
+ */
+export const reasons = Object.freeze({
+    0: '',
+    1: 'not 8 to 256 cells, or a row beside the file has not one entry for each cell',
+    2: 'cell width not 10 to 5,000 mm, time step not 1 to 100 ms, steps wanted not 1 to 1,000,000, or more accepted than wanted',
+    4: 'a cell has less than 1 mm of water: it fell dry, or nearly so',
+    5: 'the bottom is too steep for cells this narrow: take wider cells or smooth it',
+    6: 'the velocities cannot be worked out; no file is known that meets this',
+    7: 'the water became faster than 20 m/s',
+    8: 'the water rose or fell by more than 20 m',
+    9: 'more water through a face than the file can hold',
+    10: 'ten corrections did not settle: take a shorter time step or wider cells',
+    11: 'all wanted steps are already taken: nothing is left to step or filter',
+    12: 'the file is cut short, too long, or no channel file',
+    13: 'not a channel file of edition 1',
+    14: "the file's rows do not stand where they must",
+    15: 'the room for the file is not exactly 24 + 64 * cells bytes',
+    16: 'a run only: as many steps were taken as this call allowed, and the channel is not complete; call again to go on',
+    31: 'a depth is not 1 to 20,000 mm',
+    32: 'a height is not within 20,000,000 um',
+    33: 'a velocity is not within 20,000,000 um/s',
+    34: 'a reduced velocity is not within 2,000,000,000 um/s',
+    35: 'a flux is not within 10^15 um2/s',
+    36: 'an acceleration is not within 10^11 um/s2',
+    37: 'a poured amount is not within 1,000,000 um',
+});
+
+/** The refusal whose place is a face; all others that have one name a cell. */
+const FLUX = 35;
 
 /** A call that was refused. Every byte that it was given is as it was. */
 export class Refusal extends Error {
-    /**
-     * @param {number} number
-     * @param {number} stage
-     * @param {number} count
-     */
-    constructor(number, stage, count) {
-        super(`refused ${number}${stage ? ` at correction ${stage}` : ''}: ${reasons[number]}`);
+    /** @param {Answer} answer */
+    constructor({ number, stage, place, count }) {
+        const where = place === 0 ? '' : number === FLUX ? ` at face ${place}` : ` in cell ${place}`;
+        super(`refused ${number}${where}${stage ? ` at correction ${stage}` : ''}: ${reasons[number]}`);
         this.name = 'Refusal';
         /**
-         * Why: 1 to 15, as in pathpetal.h.
+         * Why: 1, 2, 4 to 15 or 31 to 37, as in pathpetal.h.
          * @type {number}
          */
         this.number = number;
@@ -77,6 +86,11 @@ export class Refusal extends Error {
          * @type {number}
          */
         this.stage = stage;
+        /**
+         * Where in the channel: the lowest cell at fault, of 35 the lowest face, counted from 1; 0 of what has none.
+         * @type {number}
+         */
+        this.place = place;
         /**
          * 0: what is refused accepts nothing.
          * @type {number}
@@ -145,6 +159,7 @@ export function row(values) {
  * @property {boolean} complete whether all wanted steps are taken: ask this, and nothing else, to call a run finished
  * @property {number} number 0 when complete, 16 when not and no step was refused, else why a step or the file was refused
  * @property {number} stage where in the refused step: 0 for the prediction and all before it, 1 to 10 for that correction
+ * @property {number} place the lowest cell at fault, of 35 the lowest face, counted from 1; 0 of what has none
  * @property {number} count steps that this call accepted; the file holds them
  * @property {string} words the number in words, empty when complete
  */
@@ -153,6 +168,7 @@ export function row(values) {
  * @typedef {object} Answer the parts of the one number that a call gives back
  * @property {number} number
  * @property {number} stage
+ * @property {number} place
  * @property {number} count
  */
 
@@ -193,7 +209,8 @@ function parts(answer) {
     return {
         number: Number((answer >> 8n) & 255n),
         stage: Number(answer & 255n),
-        count: Number(BigInt.asUintN(64, answer) >> 16n),
+        place: Number((answer >> 16n) & 511n),
+        count: Number(BigInt.asUintN(64, answer) >> 25n),
     };
 }
 
@@ -202,10 +219,10 @@ function parts(answer) {
  * @param {Answer} answer
  * @returns {number}
  */
-function accepted({ number, stage, count }) {
-    if (number !== 0)
-        throw new Refusal(number, stage, count);
-    return count;
+function accepted(answer) {
+    if (answer.number !== 0)
+        throw new Refusal(answer);
+    return answer.count;
 }
 
 /** The calls, over a WebAssembly file that was loaded. Made by `load`. */
@@ -237,13 +254,13 @@ export class Pathpetal {
      * Lends bytes to the library: copies them to the room, at most one more than the longest that a call takes, since
      * what is longer is refused all the same. Gives the two arguments that stand for them.
      * @param {Uint8Array} bytes
-     * @param {number} place 0 for a file, 1 to 3 for a row
+     * @param {number} string 0 for a file, 1 to 3 for a row
      * @returns {[number, bigint]}
      */
-    #lend(bytes, place) {
-        const lent = bytes.subarray(0, (place === 0 ? FILE_MOST : ROW_MOST) + 1);
-        this.#room.set(lent, PLACES[place]);
-        return [this.#at + PLACES[place], BigInt(lent.length)];
+    #lend(bytes, string) {
+        const lent = bytes.subarray(0, (string === 0 ? FILE_MOST : ROW_MOST) + 1);
+        this.#room.set(lent, STARTS[string]);
+        return [this.#at + STARTS[string], BigInt(lent.length)];
     }
 
     /**
@@ -259,7 +276,7 @@ export class Pathpetal {
      * @param {Start} start
      * @param {Uint8Array} [file] room for it, of exactly its length; without it there is a new one
      * @returns {Uint8Array} the file
-     * @throws {Refusal} 1, 2, 3, 4, 5, 15, 7, 9, the first that holds in this order
+     * @throws {Refusal} 1, 2, 31, 32, 33, 4, 5, 15, 7, 9, the first that holds in this order
      */
     make(start, file) {
         const cells = whole(start.cells, 'cells');
@@ -280,7 +297,8 @@ export class Pathpetal {
      * Whether these bytes are a channel file that every other call will take.
      * @param {Uint8Array} file
      * @returns {void}
-     * @throws {Refusal} 12 (shorter than its head), 13, 1, 12 (not the length for its cells), 14, 2, 3, 4, 5
+     * @throws {Refusal} 12 (shorter than its head), 13, 1, 12 (not the length for its cells), 14, 2, 31, 32, 33, 34,
+     *     35, 36, 4, 5
      */
     check(file) {
         accepted(parts(this.#calls.pathpetal_check(...this.#lend(checked(file, 'file'), 0))));
@@ -292,8 +310,8 @@ export class Pathpetal {
      * @param {Uint8Array} poured an amount of water for each cell in um, within 1,000,000, 4 bytes each as `row` makes
      *     them; all zeros to pour nothing
      * @returns {number} how many corrections it took, 1 to 10
-     * @throws {Refusal} as by `check`, the poured row's length with 1 and its amounts with 3; then 11; then at a stage
-     *     8, 4, 7, 6, 7, 9; then 10
+     * @throws {Refusal} as by `check`, the poured row's length with 1, and its amounts with 37, between 36 and 4; then
+     *     11; then at a stage 8, 4, 7, 6, 7, 9; then 10
      */
     step(file, poured) {
         const count = accepted(parts(this.#calls.pathpetal_step(
@@ -319,7 +337,7 @@ export class Pathpetal {
     /**
      * Steps with nothing poured, until the channel is complete, a step is refused, or `most` steps were accepted by
      * this call. The file keeps every accepted step. A refusal is told by the answer and not thrown; bytes that
-     * `check` refuses are told by the same number and stay as they are.
+     * `check` refuses are told by the same number and place and stay as they are.
      * @param {Uint8Array} file
      * @param {number | bigint} [most] steps that this call may take; without it, as many as are wanted. A page that
      *     shows the channel allows a few and calls again

@@ -60,7 +60,8 @@ static size_t take_input(uint8_t bytes[SECOND_FILE + 1])
 
 static void tell(struct second_answer answer)
 {
-    fprintf(stderr, "%" PRIu64 " %u %u\n", answer.count, answer.number, answer.stage);
+    fprintf(stderr, "%" PRIu64 " %u %u %u\n", answer.count, answer.number, answer.stage,
+            answer.place);
 }
 
 /* Whether the file on standard input was taken; tells a refusal. */
@@ -90,7 +91,7 @@ static void give_channel(const struct second_channel *channel)
 static struct second_answer steps(struct second_channel *channel, uint64_t K)
 {
     static const int64_t nothing[SECOND_CELLS];
-    struct second_answer answer = {0, 0, 0};
+    struct second_answer answer = {0};
     uint64_t count = 0;
     while (count < K && !answer.number) {
         answer = second_step(channel, (struct second_read_row){nothing, (size_t)channel->N});
@@ -295,7 +296,8 @@ static void say_answer(struct second_answer answer, const struct second_channel 
 {
     const struct second_row rows[CHANNEL_ROWS] = {channel->h, channel->e, channel->u,
                                                   channel->V, channel->Q, channel->F};
-    printf("answer %u %u %" PRIu64 "\n", answer.number, answer.stage, answer.count);
+    printf("answer %u %u %u %" PRIu64 "\n", answer.number, answer.stage, answer.place,
+           answer.count);
     printf("N %" PRIu64 "\nX %" PRIu64 "\nT %" PRIu64 "\n", channel->N, channel->X, channel->T);
     printf("accepted %" PRIu64 "\nwanted %" PRIu64 "\n", channel->accepted, channel->wanted);
     for (int i = 0; i < CHANNEL_ROWS; i++) {

@@ -14,6 +14,7 @@ enum {
 };
 
 #define H_LEAST INT64_C(1000)
+#define H_MOST (1000 * h_MOST + e_MOST)
 #define h_MOST INT64_C(20000)
 #define e_MOST INT64_C(20000000)
 #define u_MOST INT64_C(20000000)
@@ -131,9 +132,15 @@ static inline int64_t quick_quotient(int64_t n, struct divisor by)
     return whole_within(rest, by.d / 2 - 1) ? q : rounded_quotient(n, by.d);
 }
 
-static struct second_answer refusal(unsigned number, unsigned stage)
+static struct second_answer refusal(unsigned number, unsigned stage, unsigned place)
 {
-    return (struct second_answer){number, stage, 0};
+    return (struct second_answer){number, stage, place, 0};
+}
+
+/* An acceptance, with its count. */
+static struct second_answer acceptance(uint64_t count)
+{
+    return (struct second_answer){0, 0, 0, count};
 }
 
 /* Whether every n of a row has low <= n <= high. With t = n - low modulo
@@ -148,9 +155,35 @@ static bool row_within(const int64_t *row, size_t len, int64_t low, int64_t high
     return outside >> 63 == 0;
 }
 
-static bool row_about_zero(const int64_t *row, size_t len, int64_t most)
+/* The lowest place of a row, counted from 1, whose n is below low or above
+   high; 0 if there is none. */
+static unsigned lowest(const int64_t *row, size_t len, int64_t low, int64_t high)
 {
-    return row_within(row, len, -most, most);
+    size_t j = 0;
+    if (row_within(row, len, low, high))
+        return 0;
+    while (row[j] >= low && row[j] <= high)
+        j++;
+    return (unsigned)j + 1;
+}
+
+/* A row of the input, its range, and the refusal of a value outside. */
+struct values {
+    unsigned number;
+    const int64_t *at;
+    size_t len;
+    int64_t low, high;
+};
+
+/* The refusal of the first row with a value outside, at its lowest place. */
+static struct second_answer values_refusal(const struct values *rows, size_t count)
+{
+    for (size_t i = 0; i < count; i++) {
+        unsigned place = lowest(rows[i].at, rows[i].len, rows[i].low, rows[i].high);
+        if (place)
+            return refusal(rows[i].number, 0, place);
+    }
+    return acceptance(0);
 }
 
 static bool lengths_allowed(const struct second_channel *channel)
@@ -167,29 +200,28 @@ static bool counts_allowed(uint64_t X, uint64_t T, uint64_t accepted, uint64_t w
            accepted <= wanted;
 }
 
-/* Fills the row 1000h; whether there is water enough everywhere. */
-static bool water_allowed(struct work *k, const int64_t *h, const int64_t *e, size_t N)
+/* Fills the rows 1000h and H; the lowest cell with too little water, or 0. */
+static unsigned lowest_dry(struct work *k, const int64_t *h, const int64_t *e, size_t N)
 {
-    int64_t dry = 0;
     for (size_t j = 0; j < N; j++) {
         k->bed[j] = 1000 * h[j];
-        dry |= k->bed[j] + e[j] - H_LEAST;
+        k->H[j] = k->bed[j] + e[j];
     }
-    return dry >= 0;
+    return lowest(k->H, N, H_LEAST, H_MOST);
 }
 
-/* Whether every row is dominant. */
-static bool dominant(const struct work *k)
+/* The lowest row that is not dominant, or 0. */
+static unsigned lowest_weak(const struct work *k)
 {
-    bool all = true;
+    int64_t over[CELLS];
     for (size_t j = 0; j < k->N; j++)
-        all &= k->b[j] > fabs(k->a[j]) + fabs(k->c[j]);
-    return all;
+        over[j] = (int64_t)(k->b[j] - (fabs(k->a[j]) + fabs(k->c[j])));
+    return lowest(over, k->N, 1, INT64_MAX);
 }
 
-/* Fills the bed's rows; whether they are allowed. All coefficients are whole
-   and below 2^53, so that floats hold them and their sums exactly. */
-static bool bed_allowed(struct work *k, const int64_t *h, size_t N, uint64_t X)
+/* Fills the bed's rows. All coefficients are whole and below 2^53, so that
+   floats hold them and their sums exactly. */
+static void put_bed(struct work *k, const int64_t *h, size_t N, uint64_t X)
 {
     double row[CELLS + 2];
     const double w = 1e7 * (double)(X * X), float_X = (double)X;
@@ -213,31 +245,47 @@ static bool bed_allowed(struct work *k, const int64_t *h, size_t N, uint64_t X)
     k->a[0] = 0;
     k->b[N - 1] += 3900195 * (row[N] * row[N]);
     k->c[N - 1] = 0;
-    return dominant(k);
+}
+
+/* Water depth and dominance of a channel whose values are allowed. */
+static struct second_answer water_refusal(struct work *k, const struct second_channel *channel)
+{
+    size_t N = (size_t)channel->N;
+    unsigned place = lowest_dry(k, channel->h.at, channel->e.at, N);
+    if (place)
+        return refusal(4, 0, place);
+    put_bed(k, channel->h.at, N, channel->X);
+    place = lowest_weak(k);
+    return place ? refusal(5, 0, place) : acceptance(0);
 }
 
 /* The whole of a channel's input, with the values poured if there are any,
-   in the order 1 to 5; 0 when allowed. */
-static unsigned input_refusal(struct work *k, const struct second_channel *channel,
-                              const struct second_read_row *s)
+   in the order 1, 2, 31 to 37, 4, 5. */
+static struct second_answer input_refusal(struct work *k, const struct second_channel *channel,
+                                          const struct second_read_row *s)
 {
-    size_t N = (size_t)channel->N;
+    size_t N = (size_t)channel->N, faces = N - 1;
+    const int64_t *Q = channel->Q.at, *F = channel->F.at;
     if (!lengths_allowed(channel) || (s && s->len != N))
-        return 1;
+        return refusal(1, 0, 0);
     if (!counts_allowed(channel->X, channel->T, channel->accepted, channel->wanted))
-        return 2;
-    if (!row_within(channel->h.at, N, 1, h_MOST) ||
-        !row_about_zero(channel->e.at, N, e_MOST) ||
-        !row_about_zero(channel->u.at, N, u_MOST) ||
-        !row_about_zero(channel->V.at, N, V_MOST) ||
-        !row_about_zero(channel->Q.at, 3 * (N - 1), Q_MOST) ||
-        !row_about_zero(channel->F.at, 3 * N, F_MOST) ||
-        (s && !row_about_zero(s->at, N, s_MOST)))
-        return 3;
-    if (!water_allowed(k, channel->h.at, channel->e.at, N))
-        return 4;
+        return refusal(2, 0, 0);
+    const struct values rows[] = {
+        {31, channel->h.at, N, 1, h_MOST},
+        {32, channel->e.at, N, -e_MOST, e_MOST},
+        {33, channel->u.at, N, -u_MOST, u_MOST},
+        {34, channel->V.at, N, -V_MOST, V_MOST},
+        {35, Q, faces, -Q_MOST, Q_MOST},
+        {35, Q + faces, faces, -Q_MOST, Q_MOST},
+        {35, Q + 2 * faces, faces, -Q_MOST, Q_MOST},
+        {36, F, N, -F_MOST, F_MOST},
+        {36, F + N, N, -F_MOST, F_MOST},
+        {36, F + 2 * N, N, -F_MOST, F_MOST},
+        {37, s ? s->at : NULL, s ? N : 0, -s_MOST, s_MOST},
+    };
+    struct second_answer answer = values_refusal(rows, sizeof rows / sizeof *rows);
     k->T = (int64_t)channel->T;
-    return bed_allowed(k, channel->h.at, N, channel->X) ? 0 : 5;
+    return answer.number ? answer : water_refusal(k, channel);
 }
 
 /* Fills the ghosts of a row entered at its cell 0; sign is 1 or -1. */
@@ -478,7 +526,13 @@ static struct second_answer accept(const struct work *k, struct second_channel *
     move_down(channel->F.at, k->N);
     put_trial(k, channel);
     channel->accepted++;
-    return (struct second_answer){0, 0, corrections};
+    return acceptance(corrections);
+}
+
+/* The refusal of a stage; of 4 the trial's H tells the lowest cell. */
+static struct second_answer stage_refusal(const struct work *k, unsigned number, unsigned stage)
+{
+    return refusal(number, stage, number == 4 ? lowest(k->H, k->N, H_LEAST, H_MOST) : 0);
 }
 
 /* The stages of a step whose input is allowed. */
@@ -494,11 +548,11 @@ static struct second_answer stages(struct work *k, struct second_channel *channe
         if (!number)
             number = levels(k);
         if (number)
-            return refusal(number, stage);
+            return stage_refusal(k, number, stage);
         if (stage > 0 && small(e, k->N) && small(u, k->N))
             return accept(k, channel, stage);
         if (stage == CORRECTIONS)
-            return refusal(10, stage);
+            return refusal(10, stage, 0);
     }
 }
 
@@ -507,24 +561,29 @@ static bool complete(const struct second_channel *channel)
     return channel->accepted == channel->wanted;
 }
 
+/* The input of a step or a filter pass, with 11 for a complete channel. */
+static struct second_answer open_refusal(struct work *k, const struct second_channel *channel,
+                                         const struct second_read_row *s)
+{
+    struct second_answer answer = input_refusal(k, channel, s);
+    return !answer.number && complete(channel) ? refusal(11, 0, 0) : answer;
+}
+
 struct second_answer second_step(struct second_channel *channel, struct second_read_row s)
 {
     struct work k;
-    unsigned number = input_refusal(&k, channel, &s);
-    if (!number && complete(channel))
-        number = 11;
-    return number ? refusal(number, 0) : stages(&k, channel, s.at);
+    struct second_answer answer = open_refusal(&k, channel, &s);
+    return answer.number ? answer : stages(&k, channel, s.at);
 }
 
 struct second_answer second_run(struct second_channel *channel)
 {
     static const int64_t nothing[CELLS];
     struct work k;
-    struct second_answer answer = {0, 0, 0};
+    struct second_answer answer = input_refusal(&k, channel, NULL);
     uint64_t count = 0;
-    unsigned number = input_refusal(&k, channel, NULL);
-    if (number)
-        return refusal(number, 0);
+    if (answer.number)
+        return answer;
     while (!complete(channel)) {
         answer = stages(&k, channel, nothing);
         if (answer.number)
@@ -557,20 +616,20 @@ static bool make_V(struct work *k, const int64_t *u)
     return true;
 }
 
-static unsigned make_input_refusal(struct work *k, const struct second_channel *channel)
+static struct second_answer make_input_refusal(struct work *k, const struct second_channel *channel)
 {
     size_t N = (size_t)channel->N;
     if (!lengths_allowed(channel))
-        return 1;
+        return refusal(1, 0, 0);
     if (!counts_allowed(channel->X, channel->T, 0, channel->wanted))
-        return 2;
-    if (!row_within(channel->h.at, N, 1, h_MOST) ||
-        !row_about_zero(channel->e.at, N, e_MOST) ||
-        !row_about_zero(channel->u.at, N, u_MOST))
-        return 3;
-    if (!water_allowed(k, channel->h.at, channel->e.at, N))
-        return 4;
-    return bed_allowed(k, channel->h.at, N, channel->X) ? 0 : 5;
+        return refusal(2, 0, 0);
+    const struct values rows[] = {
+        {31, channel->h.at, N, 1, h_MOST},
+        {32, channel->e.at, N, -e_MOST, e_MOST},
+        {33, channel->u.at, N, -u_MOST, u_MOST},
+    };
+    struct second_answer answer = values_refusal(rows, sizeof rows / sizeof *rows);
+    return answer.number ? answer : water_refusal(k, channel);
 }
 
 /* The newest level fills all three. */
@@ -585,23 +644,22 @@ static void fill_levels(const struct work *k, struct second_channel *channel)
 struct second_answer second_make(struct second_channel *channel)
 {
     struct work k;
-    unsigned number = make_input_refusal(&k, channel);
-    if (number)
-        return refusal(number, 0);
+    struct second_answer answer = make_input_refusal(&k, channel);
+    unsigned number;
+    if (answer.number)
+        return answer;
     if (!make_V(&k, channel->u.at))
-        return refusal(7, 0);
+        return refusal(7, 0, 0);
     memcpy(k.e + GHOST, channel->e.at, k.N * sizeof *k.e);
-    for (size_t j = 0; j < k.N; j++) {
-        k.H[j] = k.bed[j] + channel->e.at[j];
+    for (size_t j = 0; j < k.N; j++)
         put_u(&k, j, (double)channel->u.at[j]);
-    }
     number = levels(&k);
     if (number)
-        return refusal(number, 0);
+        return refusal(number, 0, 0);
     put_trial(&k, channel);
     fill_levels(&k, channel);
     channel->accepted = 0;
-    return (struct second_answer){0, 0, 0};
+    return acceptance(0);
 }
 
 /* G at a face, from the row entered at the cell left of it. */
@@ -646,11 +704,10 @@ struct second_answer second_filter(struct second_channel *channel)
 {
     struct work k;
     struct sums unused;
-    unsigned number = input_refusal(&k, channel, NULL);
-    if (!number && complete(channel))
-        number = 11;
-    if (number)
-        return refusal(number, 0);
+    struct second_answer answer = open_refusal(&k, channel, NULL);
+    unsigned number;
+    if (answer.number)
+        return answer;
     memset(k.float_u, 0, sizeof k.float_u);
     number = filter_sweep(&k, channel);
     if (!number)
@@ -658,9 +715,9 @@ struct second_answer second_filter(struct second_channel *channel)
     if (!number)
         number = levels(&k);
     if (number)
-        return refusal(number, 0);
+        return stage_refusal(&k, number, 0);
     put_trial(&k, channel);
-    return (struct second_answer){0, 0, 0};
+    return acceptance(0);
 }
 
 static uint64_t file_length(uint64_t N)
@@ -745,28 +802,29 @@ static struct second_channel take_file(const uint8_t *bytes, size_t N, struct fi
 
 /* The reader's checks in their order, filling file and taken; the rows lent,
    if there are any, must fit the file's N. */
-static unsigned file_refusal(const uint8_t *bytes, size_t len, const struct second_channel *lent,
-                             struct file *file, struct second_channel *taken)
+static struct second_answer file_refusal(const uint8_t *bytes, size_t len,
+                                         const struct second_channel *lent, struct file *file,
+                                         struct second_channel *taken)
 {
     struct work k;
     uint32_t N;
     if (len < 48)
-        return 12;
+        return refusal(12, 0, 0);
     if (count_at(bytes) != 1)
-        return 13;
+        return refusal(13, 0, 0);
     N = count_at(bytes + 4);
     if (N < 8 || N > CELLS)
-        return 1;
+        return refusal(1, 0, 0);
     if (lent) {
         struct second_channel fit = *lent;
         fit.N = N;
         if (!lengths_allowed(&fit))
-            return 1;
+            return refusal(1, 0, 0);
     }
     if (len != file_length(N))
-        return 12;
+        return refusal(12, 0, 0);
     if (!offsets_allowed(bytes, N))
-        return 14;
+        return refusal(14, 0, 0);
     *taken = take_file(bytes, N, file);
     return input_refusal(&k, taken, NULL);
 }
@@ -780,9 +838,9 @@ struct second_answer second_read(const uint8_t *bytes, size_t len, struct second
 {
     struct file file;
     struct second_channel taken;
-    unsigned number = file_refusal(bytes, len, channel, &file, &taken);
-    if (number)
-        return refusal(number, 0);
+    struct second_answer answer = file_refusal(bytes, len, channel, &file, &taken);
+    if (answer.number)
+        return answer;
     channel->N = taken.N;
     channel->X = taken.X;
     channel->T = taken.T;
@@ -794,7 +852,7 @@ struct second_answer second_read(const uint8_t *bytes, size_t len, struct second
     copy_row(channel->V, taken.V);
     copy_row(channel->Q, taken.Q);
     copy_row(channel->F, taken.F);
-    return (struct second_answer){0, 0, 0};
+    return acceptance(0);
 }
 
 /* The lowest bytes of n, least first. */
@@ -826,11 +884,11 @@ static uint8_t *put_counts(uint8_t *b, const struct second_channel *channel)
 struct second_answer second_write(const struct second_channel *channel, uint8_t *bytes, size_t len)
 {
     struct work k;
-    unsigned number = input_refusal(&k, channel, NULL);
-    if (!number && len != file_length(channel->N))
-        number = 15;
-    if (number)
-        return refusal(number, 0);
+    struct second_answer answer = input_refusal(&k, channel, NULL);
+    if (!answer.number && len != file_length(channel->N))
+        answer = refusal(15, 0, 0);
+    if (answer.number)
+        return answer;
     bytes = put_counts(bytes, channel);
     bytes = put_row(bytes, channel->h, 4);
     bytes = put_row(bytes, channel->e, 4);
@@ -838,7 +896,7 @@ struct second_answer second_write(const struct second_channel *channel, uint8_t 
     bytes = put_row(bytes, channel->V, 4);
     bytes = put_row(bytes, channel->Q, 8);
     put_row(bytes, channel->F, 8);
-    return (struct second_answer){0, 0, 0};
+    return acceptance(0);
 }
 
 struct second_answer second_print(const uint8_t *bytes, size_t len, char text[SECOND_LINE])
@@ -846,14 +904,14 @@ struct second_answer second_print(const uint8_t *bytes, size_t len, char text[SE
     struct file file;
     struct second_channel taken;
     int64_t sum = 0;
-    unsigned number = file_refusal(bytes, len, NULL, &file, &taken);
-    if (number) {
-        snprintf(text, SECOND_LINE, "refused %u\n", number);
-        return refusal(number, 0);
+    struct second_answer answer = file_refusal(bytes, len, NULL, &file, &taken);
+    if (answer.number) {
+        snprintf(text, SECOND_LINE, "refused %u\n", answer.number);
+        return answer;
     }
     for (size_t j = 0; j < taken.N; j++)
         sum += taken.e.at[j];
     snprintf(text, SECOND_LINE, "%" PRIu64 " %" PRIu64 " %" PRIu64 " %s %" PRId64 "\n", taken.N,
              taken.accepted, taken.wanted, complete(&taken) ? "done" : "open", sum);
-    return (struct second_answer){0, 0, 0};
+    return answer;
 }

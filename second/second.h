@@ -33,9 +33,12 @@ struct second_channel {
 };
 
 /* number 0: accepted, and count is the corrections of a step or the steps of
-   a run; otherwise the refusal's number and stage (a run's count stands). */
+   a run; otherwise the refusal's number and stage (a run's count stands).
+   place, of the refusals 4, 5 and 31 to 37: the lowest cell at fault, counted
+   from 1; of 35 the lowest face. Of 35 and 36 it is a place within the newest
+   level that has a fault. In all other answers it is 0. */
 struct second_answer {
-    unsigned number, stage;
+    unsigned number, stage, place;
     uint64_t count;
 };
 

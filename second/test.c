@@ -22,14 +22,21 @@ static void check_number(int64_t got, int64_t due, const char *what)
         printf("  got %" PRId64 ", due %" PRId64 "\n", got, due);
 }
 
-static void check_answer(struct second_answer got, unsigned number, unsigned stage, uint64_t count,
-                         const char *what)
+static void check_answer(struct second_answer got, unsigned number, unsigned stage, unsigned place,
+                         uint64_t count, const char *what)
 {
-    bool good = got.number == number && got.stage == stage && got.count == count;
+    bool good = got.number == number && got.stage == stage && got.place == place &&
+                got.count == count;
     check(good, what);
     if (!good)
-        printf("  got %u %u %" PRIu64 ", due %u %u %" PRIu64 "\n", got.number, got.stage,
-               got.count, number, stage, count);
+        printf("  got %u %u %u %" PRIu64 ", due %u %u %u %" PRIu64 "\n", got.number, got.stage,
+               got.place, got.count, number, stage, place, count);
+}
+
+/* An acceptance that counts so many corrections or steps. */
+static void check_accepted(struct second_answer got, uint64_t count, const char *what)
+{
+    check_answer(got, 0, 0, 0, count, what);
 }
 
 static void check_row(const int64_t *got, const int64_t *due, size_t len, const char *what)
@@ -102,11 +109,11 @@ static struct second_answer call(struct rig *rig, enum call which)
 
 /* A call that must be refused so and leave everything as it was. */
 static void refused(struct rig *rig, enum call which, unsigned number, unsigned stage,
-                    const char *what)
+                    unsigned place, const char *what)
 {
     static struct rig before;
     memcpy(&before, rig, sizeof before);
-    check_answer(call(rig, which), number, stage, 0, what);
+    check_answer(call(rig, which), number, stage, place, 0, what);
     check(memcmp(&before, rig, sizeof before) == 0, "a refused call changes nothing");
 }
 
@@ -170,7 +177,7 @@ static void case_3_acceleration(void)
     still(&rig, 12);
     for (int64_t j = 0; j < 12; j++)
         rig.c.e.at[j] = 12 * (j + 1);
-    check_answer(call(&rig, MAKE), 0, 0, 0, "case 3 is made");
+    check_accepted(call(&rig, MAKE), 0, "case 3 is made");
     for (size_t j = 2; j < 10; j++)
         good &= rig.c.F.at[j] == -118;
     check(good, "case 3");
@@ -180,7 +187,7 @@ static void case_3_acceleration(void)
 /* Work rows for the channel's h and X with the given e and u. */
 static void trial(struct work *k, const struct rig *rig)
 {
-    check_number(make_input_refusal(k, &rig->c), 0, "a trial's input");
+    check_accepted(make_input_refusal(k, &rig->c), 0, "a trial's input");
     k->T = (int64_t)rig->c.T;
     for (size_t j = 0; j < k->N; j++) {
         k->e[GHOST + j] = rig->c.e.at[j];
@@ -294,11 +301,11 @@ static void case_8_dominance(void)
     still(&rig, 9);
     depths(&rig, 1941);
     rig.c.h.at[4] = 1000;
-    check_answer(call(&rig, MAKE), 0, 0, 0, "case 8, accepted");
+    check_accepted(call(&rig, MAKE), 0, "case 8, accepted");
     still(&rig, 9);
     depths(&rig, 1942);
     rig.c.h.at[4] = 1000;
-    refused(&rig, MAKE, 5, 0, "case 8, refused");
+    refused(&rig, MAKE, 5, 0, 5, "case 8, refused");
 }
 
 static void wall_dominance(void)
@@ -311,7 +318,7 @@ static void wall_dominance(void)
         check_number(input_number(&rig), 15, "wall row 4352");
         depths(&rig, 4353);
         rig.c.h.at[last ? 7 : 0] = 1000;
-        refused(&rig, STEP, 5, 0, "wall row 4353");
+        refused(&rig, STEP, 5, 0, last ? 8 : 1, "wall row 4353");
     }
 }
 
@@ -325,7 +332,7 @@ static void strict_dominance(void)
     check_number(input_number(&rig), 15, "neighbours 1029 and 1029");
     for (size_t j = 5; j < 9; j++)
         rig.c.h.at[j] = 1030;
-    refused(&rig, STEP, 5, 0, "neighbours 1029 and 1030, equality");
+    refused(&rig, STEP, 5, 0, 5, "neighbours 1029 and 1030, equality");
 }
 
 static void case_9_settling(void)
@@ -342,12 +349,12 @@ static void case_10_filter(void)
     struct rig rig;
     still(&rig, 16);
     rig.c.e.at[7] = 256;
-    check_answer(call(&rig, FILTER), 0, 0, 0, "case 10, e filters");
+    check_accepted(call(&rig, FILTER), 0, "case 10, e filters");
     check_row(rig.c.e.at + 3, due, 9, "case 10, e");
     check(rig.c.e.at[2] == 0 && rig.c.e.at[12] == 0, "case 10, e beyond");
     still(&rig, 16);
     rig.c.V.at[7] = 256;
-    check_answer(call(&rig, FILTER), 0, 0, 0, "case 10, V filters");
+    check_accepted(call(&rig, FILTER), 0, "case 10, V filters");
     check_row(rig.c.V.at + 3, due, 9, "case 10, V");
     check(rig.c.V.at[2] == 0 && rig.c.V.at[12] == 0, "case 10, V beyond");
 }
@@ -360,7 +367,7 @@ static void case_11_filter(void)
     still(&rig, 16);
     for (size_t j = 0; j < 16; j++)
         rig.c.e.at[j] = j % 2 ? -100 : 100;
-    check_answer(call(&rig, FILTER), 0, 0, 0, "case 11 filters");
+    check_accepted(call(&rig, FILTER), 0, "case 11 filters");
     for (size_t j = 4; j < 12; j++)
         good &= rig.c.e.at[j] == 0;
     check(good, "case 11");
@@ -378,7 +385,7 @@ static void filter_mirrors(void)
     for (size_t j = 0; j < 8; j++)
         rig.c.e.at[j] = 2560, rig.c.V.at[j] = 256;
     rig.c.accepted = 9;
-    check_answer(call(&rig, FILTER), 0, 0, 0, "a level channel filters");
+    check_accepted(call(&rig, FILTER), 0, "a level channel filters");
     for (size_t j = 0; j < 8; j++)
         good &= rig.c.e.at[j] == 2560;
     check(good, "level water stays");
@@ -398,7 +405,7 @@ static void ranges_before_rounding(void)
     rig.c.X = 5000;
     rig.c.V.at[3] = 20614588;
     rig.c.V.at[4] = 30;
-    refused(&rig, STEP, 7, 0, "u above its range by less than a half");
+    refused(&rig, STEP, 7, 0, 0, "u above its range by less than a half");
     rig.c.V.at[4] = 10;
     check_number(call(&rig, STEP).number, 0, "u below its range by less than a half");
     still(&rig, 8);
@@ -406,7 +413,7 @@ static void ranges_before_rounding(void)
     depths(&rig, 386);
     rig.c.u.at[2] = -2;
     rig.c.u.at[3] = 1719354;
-    refused(&rig, MAKE, 7, 0, "made V above its range by less than a half");
+    refused(&rig, MAKE, 7, 0, 0, "made V above its range by less than a half");
     rig.c.u.at[2] = -1;
     check_number(call(&rig, MAKE).number, 0, "made V within its range");
     still(&rig, 8);
@@ -418,7 +425,7 @@ static void ranges_before_rounding(void)
     rig.c.e.at[0] = 1000 - 1000 * h[0];
     rig.c.e.at[1] = 1000 - 1000 * h[1];
     rig.c.e.at[2] = 20000000;
-    refused(&rig, MAKE, 9, 0, "dispersive part outside by less than a half");
+    refused(&rig, MAKE, 9, 0, 0, "dispersive part outside by less than a half");
     rig.c.u.at[0]--;
     check_number(call(&rig, MAKE).number, 0, "dispersive part inside");
 }
@@ -431,13 +438,13 @@ static void cells_and_lengths(void)
         for (enum call which = MAKE; which <= WRITE; which++) {
             still(&rig, 8);
             rig.c.N = wrong[i];
-            refused(&rig, which, 1, 0, "N");
+            refused(&rig, which, 1, 0, 0, "N");
         }
     for (enum call which = MAKE; which <= WRITE; which++) {
         still(&rig, 7);
-        refused(&rig, which, 1, 0, "7 cells with rows to match");
+        refused(&rig, which, 1, 0, 0, "7 cells with rows to match");
         still(&rig, 257);
-        refused(&rig, which, 1, 0, "257 cells with rows to match");
+        refused(&rig, which, 1, 0, 0, "257 cells with rows to match");
     }
     still(&rig, 256);
     check_number(input_number(&rig), 15, "N 256");
@@ -449,15 +456,15 @@ static void cells_and_lengths(void)
                 rows[h_ROW] = &rig.c.h, rows[e_ROW] = &rig.c.e, rows[u_ROW] = &rig.c.u;
                 rows[V_ROW] = &rig.c.V, rows[Q_ROW] = &rig.c.Q, rows[F_ROW] = &rig.c.F;
                 rows[row]->len = (size_t)((ptrdiff_t)rows[row]->len + more);
-                refused(&rig, which, 1, 0, "a lent row's length");
+                refused(&rig, which, 1, 0, 0, "a lent row's length");
             }
     still(&rig, 8);
     rig.s.len = 7;
-    refused(&rig, STEP, 1, 0, "a short poured row");
+    refused(&rig, STEP, 1, 0, 0, "a short poured row");
     rig.s.len = 0;
-    refused(&rig, STEP, 1, 0, "an empty poured row");
+    refused(&rig, STEP, 1, 0, 0, "an empty poured row");
     rig.s.len = 9;
-    refused(&rig, STEP, 1, 0, "a long poured row");
+    refused(&rig, STEP, 1, 0, 0, "a long poured row");
 }
 
 static void counts(void)
@@ -483,54 +490,124 @@ static void counts(void)
         rig.c.wanted = at[i].wanted;
         check_number(input_number(&rig), at[i].due, "a count");
         if (at[i].due == 2) {
-            refused(&rig, STEP, 2, 0, "a step's count");
-            refused(&rig, FILTER, 2, 0, "a filter's count");
-            refused(&rig, RUN, 2, 0, "a run's count");
+            refused(&rig, STEP, 2, 0, 0, "a step's count");
+            refused(&rig, FILTER, 2, 0, 0, "a filter's count");
+            refused(&rig, RUN, 2, 0, 0, "a run's count");
         }
     }
     still(&rig, 8);
     rig.c.accepted = UINT64_MAX;
-    check_answer(call(&rig, MAKE), 0, 0, 0, "make does not read accepted");
+    check_accepted(call(&rig, MAKE), 0, "make does not read accepted");
     check(rig.c.accepted == 0, "make sets accepted");
     rig.c.wanted = 0;
-    refused(&rig, MAKE, 2, 0, "make's wanted");
+    refused(&rig, MAKE, 2, 0, 0, "make's wanted");
+}
+
+static const int64_t low[7] = {1, -e_MOST, -u_MOST, -V_MOST, -Q_MOST, -F_MOST, -s_MOST};
+static const int64_t high[7] = {h_MOST, e_MOST, u_MOST, V_MOST, Q_MOST, F_MOST, s_MOST};
+
+static size_t levels_of(int row)
+{
+    return row == Q_ROW || row == F_ROW ? 3 : 1;
+}
+
+/* Faces or cells of a row's levels; a row of one level has its cells. */
+static size_t places_of(const struct rig *rig, int row)
+{
+    return row_of(rig, row).len / levels_of(row);
+}
+
+/* Where a value stands; levels count from 0, newest first, places from 1. */
+static int64_t *value_of(struct rig *rig, int row, size_t level, size_t place)
+{
+    return row_of(rig, row).at + level * places_of(rig, row) + place - 1;
+}
+
+/* Every call that reads the row is refused for it, at the place. */
+static void outside(struct rig *rig, int row, size_t place, const char *what)
+{
+    unsigned number = 31 + (unsigned)row;
+    refused(rig, STEP, number, 0, (unsigned)place, what);
+    if (row < s_ROW) {
+        refused(rig, FILTER, number, 0, (unsigned)place, what);
+        refused(rig, RUN, number, 0, (unsigned)place, what);
+        refused(rig, WRITE, number, 0, (unsigned)place, what);
+    }
+    if (row <= u_ROW)
+        refused(rig, MAKE, number, 0, (unsigned)place, what);
+}
+
+/* A value at its bounds and beyond them, in one place. */
+static void value(int row, size_t level, size_t place)
+{
+    const int64_t beyond[4] = {low[row] - 1, high[row] + 1, INT64_MIN, INT64_MAX};
+    struct rig rig;
+    for (int i = 0; i < 4; i++) {
+        still(&rig, 8);
+        *value_of(&rig, row, level, place) = beyond[i];
+        outside(&rig, row, place, "a value outside");
+    }
+    still(&rig, 8);
+    depths(&rig, 20000);
+    rig.c.X = 5000;
+    *value_of(&rig, row, level, place) = high[row];
+    check_number(input_number(&rig), 15, "the highest value");
+    *value_of(&rig, row, level, place) = row == e_ROW ? 1000 - 20000000 : low[row];
+    check_number(input_number(&rig), 15, "the lowest value");
 }
 
 static void values(void)
 {
-    static const int64_t low[7] = {1,       -e_MOST, -u_MOST, -V_MOST, -Q_MOST, -F_MOST, -s_MOST};
-    static const int64_t high[7] = {h_MOST, e_MOST, u_MOST, V_MOST, Q_MOST, F_MOST, s_MOST};
     struct rig rig;
-    for (int row = h_ROW; row <= s_ROW; row++) {
-        size_t len;
-        still(&rig, 8);
-        len = row_of(&rig, row).len;
-        for (size_t j = 0; j < len; j += len - 1) {
-            const int64_t outside[4] = {low[row] - 1, high[row] + 1, INT64_MIN, INT64_MAX};
-            for (int i = 0; i < 4; i++) {
-                still(&rig, 8);
-                row_of(&rig, row).at[j] = outside[i];
-                refused(&rig, STEP, 3, 0, "a value outside");
-                if (row < s_ROW) {
-                    refused(&rig, FILTER, 3, 0, "a value outside, filter");
-                    refused(&rig, RUN, 3, 0, "a value outside, run");
-                    refused(&rig, WRITE, 3, 0, "a value outside, write");
-                }
-                if (row <= u_ROW)
-                    refused(&rig, MAKE, 3, 0, "a value outside, make");
-            }
-            still(&rig, 8);
-            depths(&rig, 20000);
-            rig.c.X = 5000;
-            row_of(&rig, row).at[j] = high[row];
-            check_number(input_number(&rig), 15, "the highest value");
-            row_of(&rig, row).at[j] = row == e_ROW ? 1000 - 20000000 : low[row];
-            check_number(input_number(&rig), 15, "the lowest value");
-        }
-    }
     still(&rig, 8);
+    for (int row = h_ROW; row <= s_ROW; row++)
+        for (size_t level = 0; level < levels_of(row); level++)
+            for (size_t place = 1; place <= places_of(&rig, row); place++)
+                value(row, level, place);
     rig.c.V.at[0] = rig.c.Q.at[0] = rig.c.F.at[0] = INT64_MIN;
-    check_answer(call(&rig, MAKE), 0, 0, 0, "make does not read what it fills");
+    check_accepted(call(&rig, MAKE), 0, "make does not read what it fills");
+}
+
+/* Two values outside. In one level the lower place is told; of two rows, and
+   of two levels, the one before the other, wherever its fault lies. */
+static void two_values(void)
+{
+    static const size_t cells[3] = {8, 9, 256};
+    struct rig rig;
+    for (size_t i = 0; i < 3; i++)
+        for (int row = h_ROW; row <= s_ROW; row++) {
+            still(&rig, cells[i]);
+            const size_t last = places_of(&rig, row), middle = last / 2;
+            *value_of(&rig, row, 0, last) = high[row] + 1;
+            outside(&rig, row, last, "the last place");
+            *value_of(&rig, row, 0, middle) = low[row] - 1;
+            outside(&rig, row, middle, "a middle place and the last");
+            *value_of(&rig, row, 0, 1) = INT64_MAX;
+            outside(&rig, row, 1, "the first place and others");
+            for (int later = row + 1; later <= s_ROW; later++) {
+                still(&rig, cells[i]);
+                *value_of(&rig, row, levels_of(row) - 1, last) = low[row] - 1;
+                *value_of(&rig, later, 0, 1) = INT64_MIN;
+                outside(&rig, row, last, "the earlier row");
+            }
+            for (size_t level = 0; level < levels_of(row); level++)
+                for (size_t older = level + 1; older < levels_of(row); older++) {
+                    still(&rig, cells[i]);
+                    *value_of(&rig, row, level, last) = INT64_MIN;
+                    *value_of(&rig, row, older, 1) = INT64_MAX;
+                    outside(&rig, row, last, "the newer level");
+                    *value_of(&rig, row, level, middle) = high[row] + 1;
+                    outside(&rig, row, middle, "the newer level's lower place");
+                }
+        }
+    still(&rig, 8);
+    *value_of(&rig, Q_ROW, 0, 7) = Q_MOST + 1;
+    *value_of(&rig, Q_ROW, 1, 2) = Q_MOST + 1;
+    outside(&rig, Q_ROW, 7, "face 7 of the newest level and face 2 of the middle one");
+    still(&rig, 8);
+    rig.c.h.at[5] = 0;
+    rig.c.e.at[1] = e_MOST + 1;
+    outside(&rig, h_ROW, 6, "a depth in cell 6 and a height in cell 2");
 }
 
 static void water(void)
@@ -541,29 +618,78 @@ static void water(void)
     check_number(input_number(&rig), 15, "1,000 um of water");
     rig.c.e.at[7] = -999001;
     for (enum call which = MAKE; which <= WRITE; which++)
-        refused(&rig, which, 4, 0, "999 um of water");
+        refused(&rig, which, 4, 0, 8, "999 um of water");
+    rig.c.e.at[3] = -1000000;
+    for (enum call which = MAKE; which <= WRITE; which++)
+        refused(&rig, which, 4, 0, 4, "cells 4 and 8 too low");
+    rig.c.e.at[0] = -e_MOST;
+    for (enum call which = MAKE; which <= WRITE; which++)
+        refused(&rig, which, 4, 0, 1, "cell 1 too low and others");
+}
+
+/* Rows that are not dominant: cells 4 and 7, then cell 1 too. */
+static void lowest_dominance(void)
+{
+    struct rig rig;
+    still(&rig, 9);
+    depths(&rig, 4353);
+    rig.c.h.at[3] = rig.c.h.at[6] = 1000;
+    for (enum call which = MAKE; which <= WRITE; which++)
+        refused(&rig, which, 5, 0, 4, "cells 4 and 7 not dominant");
+    rig.c.h.at[0] = 1000;
+    for (enum call which = MAKE; which <= WRITE; which++)
+        refused(&rig, which, 5, 0, 1, "cells 1, 4 and 7 not dominant");
+    depths(&rig, 4353);
+    rig.c.h.at[8] = 1000;
+    for (enum call which = MAKE; which <= WRITE; which++)
+        refused(&rig, which, 5, 0, 9, "cell 9 not dominant");
+}
+
+/* Faults of the input in the order of their refusals. */
+static const struct {
+    unsigned number, place;
+} input_faults[] = {{1, 0},  {2, 0},  {31, 9}, {32, 8}, {33, 7}, {34, 6},
+                    {35, 5}, {36, 4}, {37, 3}, {4, 2},  {5, 1}};
+
+static void lay(struct rig *rig, unsigned number)
+{
+    switch (number) {
+    case 1: rig->c.u.len = 8; break;
+    case 2: rig->c.T = 0; break;
+    case 4: rig->c.e.at[1] = -4999500; break;
+    case 5: rig->c.h.at[0] = 1000; break;
+    case 31: rig->c.h.at[8] = 0; break;
+    case 32: rig->c.e.at[7] = e_MOST + 1; break;
+    case 33: rig->c.u.at[6] = u_MOST + 1; break;
+    case 34: rig->c.V.at[5] = V_MOST + 1; break;
+    case 35: rig->c.Q.at[16 + 4] = Q_MOST + 1; break;
+    case 36: rig->c.F.at[9 + 3] = F_MOST + 1; break;
+    case 37: ((int64_t *)rig->s.at)[2] = s_MOST + 1; break;
+    }
+}
+
+/* Whether a call reads what the refusal is about. */
+static bool reads(enum call which, unsigned number)
+{
+    return number == 37 ? which == STEP : number < 34 || which != MAKE;
 }
 
 /* Every refusal of the input is made to meet the ones after it. */
 static void input_order(void)
 {
-    for (unsigned first = 5; first >= 1; first--)
-        for (enum call which = MAKE; which <= WRITE; which++) {
-            struct rig rig;
-            still(&rig, 9);
-            rig.c.accepted = rig.c.wanted;
-            depths(&rig, 2000);
-            rig.c.h.at[4] = 1000;
-            if (first <= 4)
-                rig.c.e.at[0] = -1999500;
-            if (first <= 3)
-                rig.c.e.at[8] = e_MOST + 1;
-            if (first <= 2)
-                rig.c.T = 0;
-            if (first <= 1)
-                rig.c.u.len = 8;
-            refused(&rig, which, first, 0, "the order of input checks");
+    const size_t count = sizeof input_faults / sizeof *input_faults;
+    for (enum call which = MAKE; which <= WRITE; which++) {
+        struct rig rig;
+        still(&rig, 9);
+        rig.c.accepted = rig.c.wanted;
+        depths(&rig, 5000);
+        for (size_t i = count; i-- > 0;) {
+            lay(&rig, input_faults[i].number);
+            if (reads(which, input_faults[i].number))
+                refused(&rig, which, input_faults[i].number, 0, input_faults[i].place,
+                        "the order of input checks");
         }
+    }
 }
 
 static void poured_order(void)
@@ -572,11 +698,11 @@ static void poured_order(void)
     still(&rig, 8);
     rig.c.e.at[0] = -999500;
     ((int64_t *)rig.s.at)[7] = s_MOST + 1;
-    refused(&rig, STEP, 3, 0, "poured beats water depth");
+    refused(&rig, STEP, 37, 0, 8, "poured beats water depth");
     rig.c.X = 9;
-    refused(&rig, STEP, 2, 0, "counts beat poured");
+    refused(&rig, STEP, 2, 0, 0, "counts beat poured");
     rig.s.len = 9;
-    refused(&rig, STEP, 1, 0, "poured length beats counts");
+    refused(&rig, STEP, 1, 0, 0, "poured length beats counts");
 }
 
 static void complete_order(void)
@@ -586,13 +712,13 @@ static void complete_order(void)
     rig.c.accepted = 10;
     rig.c.F.at[0] = F_MOST;
     rig.c.T = 100;
-    refused(&rig, STEP, 11, 0, "complete beats the stages");
-    refused(&rig, FILTER, 11, 0, "a filter of a complete channel");
-    check_answer(call(&rig, RUN), 0, 0, 0, "a run of a complete channel");
+    refused(&rig, STEP, 11, 0, 0, "complete beats the stages");
+    refused(&rig, FILTER, 11, 0, 0, "a filter of a complete channel");
+    check_accepted(call(&rig, RUN), 0, "a run of a complete channel");
     check(rig.c.accepted == 10 && rig.c.F.at[0] == F_MOST, "it changes nothing");
-    refused(&rig, WRITE, 15, 0, "a complete channel can be written");
+    refused(&rig, WRITE, 15, 0, 0, "a complete channel can be written");
     rig.c.accepted = 9;
-    refused(&rig, STEP, 7, 0, "one step is left");
+    refused(&rig, STEP, 7, 0, 0, "one step is left");
 }
 
 /* Stage 0 with several faults at once: 8, 4, 7 in this order over all cells. */
@@ -606,16 +732,16 @@ static void stage_order(void)
     rig.c.F.at[0] = F_MOST;
     rig.c.e.at[0] = -999000;
     ((int64_t *)rig.s.at)[0] = -1;
-    refused(&rig, STEP, 8, 0, "8 beats 4 and 7");
+    refused(&rig, STEP, 8, 0, 0, "8 beats 4 and 7");
     rig.c.Q.at[6] = 0;
-    refused(&rig, STEP, 4, 0, "4 beats 7");
+    refused(&rig, STEP, 4, 0, 1, "4 beats 7");
     ((int64_t *)rig.s.at)[0] = 0;
-    refused(&rig, STEP, 7, 0, "V out of range");
+    refused(&rig, STEP, 7, 0, 0, "V out of range");
     still(&rig, 8);
     rig.c.V.at[7] = 21000000;
     rig.c.X = 5000;
     depths(&rig, 1);
-    refused(&rig, STEP, 7, 0, "u out of range");
+    refused(&rig, STEP, 7, 0, 0, "u out of range");
 }
 
 /* u of 2, 2, -2, -2 in turn: the mirrored rows go on in the same turn. */
@@ -633,17 +759,17 @@ static void flux_refusals(void)
 {
     struct rig rig;
     turns(&rig, 374418840); /* u is 120 */
-    refused(&rig, STEP, 9, 0, "dispersive part out of range");
+    refused(&rig, STEP, 9, 0, 0, "dispersive part out of range");
     turns(&rig, 343217270); /* u is 110 */
-    refused(&rig, STEP, 8, 1, "dispersive part in range");
+    refused(&rig, STEP, 8, 1, 0, "dispersive part in range");
     turns(&rig, 399380096); /* filtered 374418840 */
-    refused(&rig, FILTER, 9, 0, "a filter's flux out of range");
+    refused(&rig, FILTER, 9, 0, 0, "a filter's flux out of range");
     turns(&rig, 0);
     for (size_t j = 0; j < 8; j++)
         rig.c.u.at[j] = j % 4 < 2 ? 120 : -120;
-    refused(&rig, MAKE, 9, 0, "a made flux out of range");
+    refused(&rig, MAKE, 9, 0, 0, "a made flux out of range");
     rig.c.u.at[7] = -20000000;
-    refused(&rig, MAKE, 7, 0, "in make 7 beats 9");
+    refused(&rig, MAKE, 7, 0, 0, "in make 7 beats 9");
 }
 
 /* Both parts are in range at the first face, the second time not their sum. */
@@ -659,9 +785,9 @@ static void sum_of_flux(void)
             rig.c.u.at[j] = u;
         }
         if (u == 15000000)
-            check_answer(call(&rig, MAKE), 0, 0, 0, "a sum in range");
+            check_accepted(call(&rig, MAKE), 0, "a sum in range");
         else
-            refused(&rig, MAKE, 9, 0, "a sum out of range");
+            refused(&rig, MAKE, 9, 0, 0, "a sum out of range");
     }
 }
 
@@ -674,18 +800,22 @@ static void filter_refusals(void)
     depths(&rig, 20000);
     for (size_t j = 0; j < 9; j++)
         rig.c.e.at[3 + j] = 19990000 * sign[j];
-    refused(&rig, FILTER, 8, 0, "filtered height out of range");
+    refused(&rig, FILTER, 8, 0, 0, "filtered height out of range");
     still(&rig, 16);
     for (size_t j = 0; j < 9; j++) {
         rig.c.e.at[3 + j] = -900000 * sign[j];
         rig.c.V.at[3 + j] = V_MOST * sign[j];
     }
-    refused(&rig, FILTER, 4, 0, "filtered water too low, before V");
+    refused(&rig, FILTER, 4, 0, 8, "filtered water too low, before V");
     memset(rig.c.e.at, 0, 16 * sizeof(int64_t));
-    refused(&rig, FILTER, 7, 0, "filtered V out of range");
+    refused(&rig, FILTER, 7, 0, 0, "filtered V out of range");
     memset(rig.c.V.at, 0, 16 * sizeof(int64_t));
     rig.c.V.at[7] = V_MOST;
-    refused(&rig, FILTER, 7, 0, "u of the filtered V out of range");
+    refused(&rig, FILTER, 7, 0, 0, "u of the filtered V out of range");
+    still(&rig, 32);
+    for (size_t j = 0; j < 9; j++)
+        rig.c.e.at[3 + j] = rig.c.e.at[19 + j] = -900000 * sign[j];
+    refused(&rig, FILTER, 4, 0, 8, "filtered water too low in cells 8 and 24");
 }
 
 /* Made channels of 8 cells whose first step is refused above stage 0. */
@@ -694,28 +824,30 @@ static void later_stages(void)
     static const struct {
         uint64_t X, T;
         int64_t h, e[8], u[8];
-        unsigned number, stage;
+        unsigned number, stage, place;
     } at[] = {
-        {10, 50, 10, {4494, 414}, {-7218, 5508, -7455, 3669, -9009, 6381, 8769, -9524}, 10, 10},
+        {10, 50, 10, {4494, 414}, {-7218, 5508, -7455, 3669, -9009, 6381, 8769, -9524}, 10, 10, 0},
         {1000, 20, 5000, {0, 292290, -415091, 0, 0, 0, 0, -308990},
-         {2882414, -2668180, -1242015, -12196983, -9260103, 7221815, -11060090, 2139932}, 4, 1},
+         {2882414, -2668180, -1242015, -12196983, -9260103, 7221815, -11060090, 2139932}, 4, 1, 5},
         {10, 100, 500, {0, -3888, -3872, 0, 0, 0, 3121, -3699},
-         {-85, 90, -73, -77, -53, -12, -56, 78}, 4, 2},
-        {10, 50, 500, {0, -33314, 0, 0, -38187, 30469, 38982, 0}, {0}, 4, 3},
-        {10, 50, 500, {-4413, -2037, 3410, 817, 453, -2259, -1858, 1532}, {0}, 4, 9},
+         {-85, 90, -73, -77, -53, -12, -56, 78}, 4, 2, 3},
+        {10, 50, 500, {0, -33314, 0, 0, -38187, 30469, 38982, 0}, {0}, 4, 3, 5},
+        {10, 50, 500, {-4413, -2037, 3410, 817, 453, -2259, -1858, 1532}, {0}, 4, 9, 8},
         {20, 100, 50, {30726, 33289, 0, 0, 0, 4282, 0, -29261},
-         {30, -64, 58, -73, 97, 54, -31, -87}, 4, 10},
+         {30, -64, 58, -73, 97, 54, -31, -87}, 4, 10, 2},
         {20, 1, 10, {3969, 2306, 0, 0, 0, 4398, 0, -4457},
-         {-14100142, -2556690, -3845716, -8777915, -1990699, -5699096, -4790484, 7074583}, 7, 1},
+         {-14100142, -2556690, -3845716, -8777915, -1990699, -5699096, -4790484, 7074583}, 7, 1, 0},
         {20, 1, 2, {0, 0, 0, -26, 0, -128, 0, 394},
-         {18057431, -9006633, -11442814, -11338770, -1598944, -6858255, -4886606, -4148215}, 7, 2},
+         {18057431, -9006633, -11442814, -11338770, -1598944, -6858255, -4886606, -4148215},
+         7, 2, 0},
         {1000, 50, 50, {0, 0, 0, -18, 0, 0, 0, -229},
-         {10376563, 9078151, -10657749, 16769997, -10842855, 18551028, -12202074, 11668317}, 7, 4},
-        {20, 100, 20000, {37313, 75026, -101476, 0, 0, 0, 105057, -126512}, {0}, 8, 1},
-        {10, 5, 20000, {0, 4723546, 2865440, 0, -7277654, -853775, 0, -9896626}, {0}, 8, 5},
+         {10376563, 9078151, -10657749, 16769997, -10842855, 18551028, -12202074, 11668317},
+         7, 4, 0},
+        {20, 100, 20000, {37313, 75026, -101476, 0, 0, 0, 105057, -126512}, {0}, 8, 1, 0},
+        {10, 5, 20000, {0, 4723546, 2865440, 0, -7277654, -853775, 0, -9896626}, {0}, 8, 5, 0},
         {100, 50, 20000, {10307233, 0, -651964, -13517750, 0, 3623212, 0, 0},
-         {60, 77, -47, -73, 25, -41, -82, -41}, 8, 10},
-        {20, 100, 20000, {0, -52574, -46709, 52539, 0, 89025, 101402, 0}, {0}, 9, 2},
+         {60, 77, -47, -73, 25, -41, -82, -41}, 8, 10, 0},
+        {20, 100, 20000, {0, -52574, -46709, 52539, 0, 89025, 101402, 0}, {0}, 9, 2, 0},
     };
     struct rig rig;
     for (size_t i = 0; i < sizeof at / sizeof *at; i++) {
@@ -725,8 +857,8 @@ static void later_stages(void)
         depths(&rig, at[i].h);
         memcpy(rig.c.e.at, at[i].e, sizeof at[i].e);
         memcpy(rig.c.u.at, at[i].u, sizeof at[i].u);
-        check_answer(call(&rig, MAKE), 0, 0, 0, "a later stage's channel is made");
-        refused(&rig, STEP, at[i].number, at[i].stage, "a later stage");
+        check_accepted(call(&rig, MAKE), 0, "a later stage's channel is made");
+        refused(&rig, STEP, at[i].number, at[i].stage, at[i].place, "a later stage");
     }
 }
 
@@ -773,18 +905,18 @@ static void whole_calls(void)
     memcpy(rig.c.e.at, e, sizeof e);
     memcpy(rig.c.u.at, u, sizeof u);
     memcpy((int64_t *)rig.s.at, s, sizeof s);
-    check_answer(call(&rig, MAKE), 0, 0, 0, "whole make");
+    check_accepted(call(&rig, MAKE), 0, "whole make");
     check_row(rig.c.V.at, V, 9, "made V");
     check_row(rig.c.u.at, u, 9, "u stays as given");
     for (size_t level = 0; level < 3; level++) {
         check_row(rig.c.Q.at + 8 * level, Q, 8, "made Q");
         check_row(rig.c.F.at + 9 * level, F, 9, "made F");
     }
-    check_answer(call(&rig, STEP), 0, 0, 2, "first step");
+    check_accepted(call(&rig, STEP), 2, "first step");
     check_row(rig.c.Q.at + 8, Q, 8, "Q moved down");
     check_row(rig.c.F.at + 18, F, 9, "F moved down");
-    check_answer(call(&rig, STEP), 0, 0, 2, "second step");
-    check_answer(call(&rig, STEP), 0, 0, 1, "third step");
+    check_accepted(call(&rig, STEP), 2, "second step");
+    check_accepted(call(&rig, STEP), 1, "third step");
     check(rig.c.accepted == 3, "accepted grows");
     check_row(rig.c.h.at, h, 9, "h stays");
     check_row(rig.c.e.at, stepped_e, 9, "stepped e");
@@ -792,7 +924,7 @@ static void whole_calls(void)
     check_row(rig.c.V.at, stepped_V, 9, "stepped V");
     check_row(rig.c.Q.at, stepped_Q, 24, "stepped Q");
     check_row(rig.c.F.at, stepped_F, 27, "stepped F");
-    check_answer(call(&rig, FILTER), 0, 0, 0, "whole filter");
+    check_accepted(call(&rig, FILTER), 0, "whole filter");
     check_row(rig.c.e.at, filtered_e, 9, "filtered e");
     check_row(rig.c.u.at, filtered_u, 9, "filtered u");
     check_row(rig.c.V.at, filtered_V_due, 9, "filtered V");
@@ -812,7 +944,7 @@ static void stored_u(void)
     other.c.e.at[3] = 5000;
     for (size_t j = 0; j < 8; j++)
         other.c.u.at[j] = 20000000;
-    check_answer(call(&one, STEP), 0, 0, call(&other, STEP).count, "the stored u is not read");
+    check_accepted(call(&one, STEP), call(&other, STEP).count, "the stored u is not read");
     check_row(one.c.u.at, other.c.u.at, 8, "nor does it stay");
     check_row(one.c.e.at, other.c.e.at, 8, "nor moves water");
 }
@@ -824,7 +956,7 @@ static void pouring(void)
     still(&rig, 8);
     for (size_t j = 0; j < 8; j++)
         ((int64_t *)rig.s.at)[j] = 1000;
-    check_answer(call(&rig, STEP), 0, 0, 1, "level pouring");
+    check_accepted(call(&rig, STEP), 1, "level pouring");
     for (size_t j = 0; j < 8; j++)
         good &= rig.c.e.at[j] == 1000;
     check(good, "poured once");
@@ -837,20 +969,55 @@ static void runs(void)
     struct rig rig;
     still(&rig, 8);
     rig.c.accepted = 3;
-    check_answer(call(&rig, RUN), 0, 0, 7, "a run to its end");
+    check_accepted(call(&rig, RUN), 7, "a run to its end");
     check(rig.c.accepted == 10, "it is complete");
-    check_answer(call(&rig, RUN), 0, 0, 0, "a run of what is complete");
+    check_accepted(call(&rig, RUN), 0, "a run of what is complete");
     still(&rig, 8);
     rig.c.X = 20;
     rig.c.T = 50;
     rig.c.wanted = 40;
     depths(&rig, 50);
     memcpy(rig.c.e.at, e, sizeof e);
-    check_answer(call(&rig, MAKE), 0, 0, 0, "a run's make");
-    check_answer(call(&rig, RUN), 10, 10, 25, "a run that is refused a step");
+    check_accepted(call(&rig, MAKE), 0, "a run's make");
+    check_answer(call(&rig, RUN), 10, 10, 0, 25, "a run that is refused a step");
     check(rig.c.accepted == 25, "it keeps what was accepted");
     check_row(rig.c.e.at, ran_e, 8, "and the water of that");
-    refused(&rig, STEP, 10, 10, "the step it was refused");
+    refused(&rig, STEP, 10, 10, 0, "the step it was refused");
+}
+
+/* Cells 3 and 6 fall dry in the prediction: a step's answer and a run's. */
+static void dry_prediction(void)
+{
+    struct rig rig;
+    still(&rig, 8);
+    rig.c.T = 1;
+    depths(&rig, 2);
+    rig.c.e.at[2] = rig.c.e.at[5] = -1000;
+    for (size_t level = 0; level < 3; level++)
+        rig.c.Q.at[7 * level + 2] = rig.c.Q.at[7 * level + 5] = 1000000000;
+    refused(&rig, STEP, 4, 0, 3, "cells 3 and 6 fall dry");
+    refused(&rig, RUN, 4, 0, 3, "a run's first step");
+    check_accepted(call(&rig, FILTER), 0, "the filter lets it be");
+}
+
+/* A run whose third step is refused 4 at its first correction, in cell 7. */
+static void dry_run(void)
+{
+    static const int64_t h[8] = {63, 55, 53, 66, 60, 55, 54, 67};
+    static const int64_t e[8] = {-32667, -48999, -30063, -7379, 49344, 37973, 22244, -36630};
+    static const int64_t u[8] = {-136930, -493786, -632086, -851662, 941976, 21602, -905142,
+                                 933422};
+    struct rig rig;
+    still(&rig, 8);
+    rig.c.X = 200;
+    rig.c.T = 100;
+    memcpy(rig.c.h.at, h, sizeof h);
+    memcpy(rig.c.e.at, e, sizeof e);
+    memcpy(rig.c.u.at, u, sizeof u);
+    check_accepted(call(&rig, MAKE), 0, "a dry run's make");
+    check_answer(call(&rig, RUN), 4, 1, 7, 2, "a run that falls dry");
+    check(rig.c.accepted == 2, "it keeps two steps");
+    refused(&rig, STEP, 4, 1, 7, "the step that falls dry");
 }
 
 /* A channel file of 8 cells, written from a channel with telling values. */
@@ -871,7 +1038,7 @@ static size_t telling_file(struct rig *rig, uint8_t *bytes)
         rig->c.Q.at[j] = j % 2 ? -Q_MOST + (int64_t)j : Q_MOST - (int64_t)j;
     for (size_t j = 0; j < 24; j++)
         rig->c.F.at[j] = j % 2 ? -F_MOST + (int64_t)j : F_MOST - (int64_t)j;
-    check_answer(second_write(&rig->c, bytes, 536), 0, 0, 0, "a file is written");
+    check_accepted(second_write(&rig->c, bytes, 536), 0, "a file is written");
     return 536;
 }
 
@@ -894,7 +1061,7 @@ static void file_bytes(void)
     check(bytes[536] == 0xa5, "nothing beyond the file");
     still(&back, 8);
     memset(back.c.h.at, 0x77, 8 * sizeof(int64_t));
-    check_answer(second_read(bytes, 536, &back.c), 0, 0, 0, "a file is read");
+    check_accepted(second_read(bytes, 536, &back.c), 0, "a file is read");
     check(back.c.N == 8 && back.c.X == 0x0403 && back.c.T == 0x21 && back.c.accepted == 0x030201 &&
               back.c.wanted == 0x030202,
           "counts come back");
@@ -905,21 +1072,23 @@ static void file_bytes(void)
         if (len != 536 && (len < 4 || len > 530)) {
             uint8_t before[sizeof bytes];
             memcpy(before, bytes, sizeof bytes);
-            check_answer(second_write(&rig.c, bytes, len), 15, 0, 0, "a buffer of another length");
+            check_answer(second_write(&rig.c, bytes, len), 15, 0, 0, 0,
+                         "a buffer of another length");
             check(memcmp(before, bytes, sizeof bytes) == 0, "which stays as it was");
         }
 }
 
 /* Reads bytes that must be refused so, with and without lent rows. */
-static void file_refused(const uint8_t *bytes, size_t len, unsigned number, const char *what)
+static void file_refused(const uint8_t *bytes, size_t len, unsigned number, unsigned place,
+                         const char *what)
 {
     static struct rig rig, before;
     char text[SECOND_LINE], due[SECOND_LINE];
     still(&rig, 8);
     memcpy(&before, &rig, sizeof rig);
-    check_answer(second_read(bytes, len, &rig.c), number, 0, 0, what);
+    check_answer(second_read(bytes, len, &rig.c), number, 0, place, 0, what);
     check(memcmp(&before, &rig, sizeof rig) == 0, "a refused file changes nothing");
-    check_answer(second_print(bytes, len, text), number, 0, 0, "printing is refused too");
+    check_answer(second_print(bytes, len, text), number, 0, place, 0, "printing is refused too");
     snprintf(due, sizeof due, "refused %u\n", number);
     check(strcmp(text, due) == 0, "the line of a refused file");
 }
@@ -932,29 +1101,39 @@ static void file_order(void)
     size_t len = telling_file(&rig, bytes);
     for (size_t j = 0; j < 8; j++)
         put(bytes + 48 + 4 * j, j == 4 ? 1000 : 2100, 4);
-    file_refused(bytes, len, 5, "a file not dominant");
+    file_refused(bytes, len, 5, 5, "a file not dominant");
     put(bytes + 80, (uint64_t)(999 - 2100000), 4);
-    file_refused(bytes, len, 4, "a file with too little water");
+    file_refused(bytes, len, 4, 1, "a file with too little water");
     put(bytes + 344 + 23 * 8, (uint64_t)(F_MOST + 1), 8);
-    file_refused(bytes, len, 3, "a file with a value outside");
+    file_refused(bytes, len, 36, 8, "a file with an acceleration outside");
+    put(bytes + 176 + 13 * 8, (uint64_t)(-Q_MOST - 1), 8);
+    file_refused(bytes, len, 35, 7, "a file with a flux outside");
+    put(bytes + 144 + 2 * 4, (uint64_t)(V_MOST + 1), 4);
+    file_refused(bytes, len, 34, 3, "a file with V outside");
+    put(bytes + 112 + 3 * 4, (uint64_t)(-u_MOST - 1), 4);
+    file_refused(bytes, len, 33, 4, "a file with u outside");
+    put(bytes + 80 + 5 * 4, (uint64_t)(e_MOST + 1), 4);
+    file_refused(bytes, len, 32, 6, "a file with a height outside");
+    put(bytes + 48 + 6 * 4, 0, 4);
+    file_refused(bytes, len, 31, 7, "a file with a depth outside");
     put(bytes + 20, 0x030200, 4);
-    file_refused(bytes, len, 2, "a file accepted beyond wanted");
+    file_refused(bytes, len, 2, 0, "a file accepted beyond wanted");
     put(bytes + 44, 345, 4);
-    file_refused(bytes, len, 14, "a file of other offsets");
-    file_refused(bytes, len - 1, 12, "a short file");
-    file_refused(bytes, len + 1, 12, "a long file");
-    file_refused(bytes, 48, 12, "a file of counts alone");
+    file_refused(bytes, len, 14, 0, "a file of other offsets");
+    file_refused(bytes, len - 1, 12, 0, "a short file");
+    file_refused(bytes, len + 1, 12, 0, "a long file");
+    file_refused(bytes, 48, 12, 0, "a file of counts alone");
     put(bytes + 4, 257, 4);
-    file_refused(bytes, len, 1, "a file of 257 cells");
+    file_refused(bytes, len, 1, 0, "a file of 257 cells");
     put(bytes + 4, 7, 4);
-    file_refused(bytes, len, 1, "a file of 7 cells");
+    file_refused(bytes, len, 1, 0, "a file of 7 cells");
     put(bytes + 4, UINT32_MAX, 4);
-    file_refused(bytes, len, 1, "a file of 2^32 - 1 cells");
+    file_refused(bytes, len, 1, 0, "a file of 2^32 - 1 cells");
     put(bytes, 2, 4);
-    file_refused(bytes, len, 13, "a file of edition 2");
-    file_refused(bytes, 48, 13, "48 bytes of edition 2");
-    file_refused(bytes, 47, 12, "47 bytes");
-    file_refused(bytes, 0, 12, "no bytes");
+    file_refused(bytes, len, 13, 0, "a file of edition 2");
+    file_refused(bytes, 48, 13, 0, "48 bytes of edition 2");
+    file_refused(bytes, 47, 12, 0, "47 bytes");
+    file_refused(bytes, 0, 12, 0, "no bytes");
 }
 
 static void file_offsets(void)
@@ -964,11 +1143,11 @@ static void file_offsets(void)
     for (size_t at = 24; at < 48; at += 4) {
         telling_file(&rig, bytes);
         bytes[at + 3] = 1;
-        file_refused(bytes, 536, 14, "an offset");
+        file_refused(bytes, 536, 14, 0, "an offset");
     }
     telling_file(&rig, bytes);
     put(bytes + 16, UINT32_MAX, 4);
-    file_refused(bytes, 536, 2, "counts are unsigned");
+    file_refused(bytes, 536, 2, 0, "counts are unsigned");
 }
 
 static void file_lent_rows(void)
@@ -977,15 +1156,15 @@ static void file_lent_rows(void)
     uint8_t bytes[536];
     telling_file(&rig, bytes);
     still(&nine, 9);
-    check_answer(second_read(bytes, 536, &nine.c), 1, 0, 0, "rows lent for 9 cells");
-    check_answer(second_read(bytes, 500, &nine.c), 1, 0, 0, "lent rows come before the length");
+    check_answer(second_read(bytes, 536, &nine.c), 1, 0, 0, 0, "rows lent for 9 cells");
+    check_answer(second_read(bytes, 500, &nine.c), 1, 0, 0, 0, "lent rows come before the length");
     check(nine.c.N == 9 && nine.c.h.at[0] == 1000, "and stay as they were");
     still(&rig, 8);
     rig.c.F.len = 8;
-    check_answer(second_read(bytes, 536, &rig.c), 1, 0, 0, "one level lent for three");
+    check_answer(second_read(bytes, 536, &rig.c), 1, 0, 0, 0, "one level lent for three");
     still(&rig, 8);
     rig.c.N = 77;
-    check_answer(second_read(bytes, 536, &rig.c), 0, 0, 0, "the lent channel's N is not read");
+    check_accepted(second_read(bytes, 536, &rig.c), 0, "the lent channel's N is not read");
 }
 
 static void printed(void)
@@ -997,7 +1176,7 @@ static void printed(void)
     for (size_t j = 0; j < 8; j++)
         rig.c.e.at[j] = 7;
     second_write(&rig.c, bytes, 536);
-    check_answer(second_print(bytes, 536, text), 0, 0, 0, "a file is printed");
+    check_accepted(second_print(bytes, 536, text), 0, "a file is printed");
     check(strcmp(text, "8 0 10 open 56\n") == 0, "its line");
     rig.c.accepted = 10;
     second_write(&rig.c, bytes, 536);
@@ -1009,7 +1188,7 @@ static void printed(void)
     rig.c.accepted = rig.c.wanted = 1000000;
     for (size_t j = 0; j < 256; j++)
         rig.c.e.at[j] = -19999000;
-    check_answer(second_write(&rig.c, bytes, SECOND_FILE), 0, 0, 0, "the longest file");
+    check_accepted(second_write(&rig.c, bytes, SECOND_FILE), 0, "the longest file");
     second_print(bytes, SECOND_FILE, text);
     check(strcmp(text, "256 1000000 1000000 done -5119744000\n") == 0, "the longest line");
 }
@@ -1036,7 +1215,9 @@ int main(void)
     cells_and_lengths();
     counts();
     values();
+    two_values();
     water();
+    lowest_dominance();
     input_order();
     poured_order();
     complete_order();
@@ -1049,6 +1230,8 @@ int main(void)
     stored_u();
     pouring();
     runs();
+    dry_prediction();
+    dry_run();
     file_bytes();
     file_order();
     file_offsets();

@@ -1,37 +1,40 @@
 /* The library and the second program on the same calls: answers and every lent value equal to the bit.
-   usage: calls [CALLS]   prints how often each refusal, stage, k and tie occurred, all of which must, and last
+   usage: calls [CALLS]   prints how often each refusal, stage, k, tie and place occurred, all of which must, and last
                           'N passed, M failed'
           calls CALLS some   the same calls, but too few of them for all of that to occur
           calls scenes COUNT   draws that many scenes with the second program alone, and prints the first three in
                                which each refusal occurs */
+#include "faults.h"
 #include "lent.h"
 #include "rare.h"
 
 #include <inttypes.h>
 #include <stdio.h>
 
-enum { NUMBERS = 12, STAGES = 11 };
+enum { NUMBERS = 38, STAGES = 11 };
 static const char *const names[KINDS] = {"make", "step", "filter", "run"};
 
 #define LENT(i) c->row[i], c->len[i]
 #define COUNTS(accepted) (size_t)c->N, c->X, c->T, accepted, c->wanted
 #define CHANNEL LENT(ROW_h), LENT(ROW_e), LENT(ROW_u), LENT(ROW_V), LENT(ROW_Q), LENT(ROW_F)
+#define ANSWER &stage, &place, &count
 
 static struct answer library_does(enum kind kind, struct call *c)
 {
-    uint64_t number, stage, count;
+    uint64_t number, stage, place, count;
     switch (kind) {
-    case MAKE: number = lent_make(COUNTS(&c->accepted), CHANNEL, &stage, &count); break;
-    case STEP: number = lent_step(COUNTS(&c->accepted), CHANNEL, LENT(ROW_s), &stage, &count); break;
-    case FILTER: number = lent_filter(COUNTS(c->accepted), CHANNEL, &stage, &count); break;
-    default: number = lent_run(COUNTS(&c->accepted), CHANNEL, &stage, &count);
+    case MAKE: number = lent_make(COUNTS(&c->accepted), CHANNEL, ANSWER); break;
+    case STEP: number = lent_step(COUNTS(&c->accepted), CHANNEL, LENT(ROW_s), ANSWER); break;
+    case FILTER: number = lent_filter(COUNTS(c->accepted), CHANNEL, ANSWER); break;
+    default: number = lent_run(COUNTS(&c->accepted), CHANNEL, ANSWER);
     }
-    return (struct answer){number, stage, count};
+    return (struct answer){number, stage, place, count};
 }
 
 static bool same(struct answer a, struct answer b, const struct call *left, const struct call *other)
 {
-    return a.number == b.number && a.stage == b.stage && a.count == b.count && !memcmp(left, other, sizeof *left);
+    return a.number == b.number && a.stage == b.stage && a.place == b.place && a.count == b.count &&
+           !memcmp(left, other, sizeof *left);
 }
 
 /* How often each tie was met, and how many calls, up to ENOUGH, it decides: they leave something else when it is
@@ -54,9 +57,80 @@ static void count_ties(enum kind kind, const struct call *c, struct answer a, co
     }
 }
 
-static long passed, failed, refused_at[KINDS][NUMBERS + 4][STAGES], settled_at[STAGES];
+static long passed, failed, refused_at[KINDS][NUMBERS][STAGES], settled_at[STAGES];
 static uint64_t scene_here; /* its number */
 static bool alone;          /* without the library */
+
+/* Where a refusal with a place was met: in the input, at stage 0 (a filter pass has no other), or at a correction. */
+enum { INPUT, STAGE_0, CORRECTION, WHENS };
+static const char *const whens[WHENS] = {"in the input", "at stage 0", "at a correction"};
+
+/* How often it was at the first place, the last and between; how often with several faults at once; with several in the
+   row told; with one at a lower place in a later row; and of levels how often with one in an older level too, and there
+   at a lower place. */
+enum { FIRST, BETWEEN, LAST, SEVERAL, ROW_SEVERAL, LATER_LOWER, TWO_LEVELS, OLDER_LOWER, COLUMNS };
+static const char *const columns[COLUMNS] = {
+    "first", "between", "last", "several", "in the row", "later row lower", "two levels", "older level lower",
+};
+static long placed[KINDS][NUMBERS][WHENS][COLUMNS];
+
+static bool has_place(uint64_t number) { return number == 4 || number == 5 || number > 30; }
+
+static void count_place(long *at, uint64_t place, size_t places)
+{
+    at[place == 1 ? FIRST : place == places ? LAST : BETWEEN]++;
+}
+
+/* Counts a refusal of the input for the first row at fault. */
+static void count_input(enum kind kind, const struct searched *told, const struct searched *end, struct answer a)
+{
+    long *at = placed[kind][a.number][INPUT];
+    bool later = false, level = false, older = false;
+    long faults = faults_in(told);
+    at[ROW_SEVERAL] += faults > 1;
+    for (const struct searched *s = told + 1; s < end; s++) {
+        uint64_t place = lowest_of(s);
+        bool lower = place && place < a.place, same_row = s->number == told->number;
+        later |= lower && !same_row;
+        older |= lower && same_row;
+        level |= place && same_row;
+        faults += faults_in(s);
+    }
+    count_place(at, a.place, told->len);
+    at[SEVERAL] += faults > 1;
+    at[LATER_LOWER] += later;
+    at[TWO_LEVELS] += level;
+    at[OLDER_LOWER] += older;
+}
+
+/* Counts a refusal 4 of a stage; the channel left is the one whose step or filter pass was refused. */
+static void count_stage(enum kind kind, struct call *left, struct answer a)
+{
+    static const int64_t nothing[CELLS];
+    struct second_channel channel = channel_of(left);
+    long *at = placed[kind][a.number][a.stage ? CORRECTION : STAGE_0];
+    count_place(at, a.place, (size_t)left->N);
+    at[SEVERAL] += dry_cells(&channel, kind == STEP ? left->row[ROW_s] : kind == RUN ? nothing : NULL, a.stage) > 1;
+}
+
+/* Counts the place of an answer to the call on c; whether the answer is one that the faults of the input allow. */
+static bool count_places(enum kind kind, const struct call *c, struct answer a, struct call *left)
+{
+    static struct searched rows[SEARCHED];
+    const struct searched *told = rows, *end = rows + SEARCHED;
+    if (a.number == 1 || a.number == 2)
+        return a.place == 0;
+    find_faults(kind, c, rows);
+    while (told < end && !lowest_of(told))
+        told++;
+    if (told < end) {
+        count_input(kind, told, end, a);
+        return a.number == told->number && a.place == lowest_of(told) && a.stage == 0 && a.count == 0;
+    }
+    if (a.number == 4)
+        count_stage(kind, left, a);
+    return a.number == 4 ? a.place > 0 && a.place <= c->N : !has_place(a.number) && a.place == 0;
+}
 
 /* Both programs do the call on c; c is then what they left. */
 static struct answer compare(enum kind kind, struct call *c)
@@ -65,13 +139,16 @@ static struct answer compare(enum kind kind, struct call *c)
     mine = theirs = *c;
     memset(ties, 0, sizeof ties);
     struct answer b = second_does(kind, &theirs), a = alone ? b : library_does(kind, &mine);
+    bool right = alone || count_places(kind, c, b, &theirs);
     if (!alone)
         count_ties(kind, c, b, &theirs);
-    if (alone || same(a, b, &mine, &theirs)) {
+    if (alone || (right && same(a, b, &mine, &theirs))) {
         passed++;
     } else if (failed++ < 10) {
-        printf("%s differs: library %" PRIu64 " %" PRIu64 " %" PRIu64 ", second %" PRIu64 " %" PRIu64 " %" PRIu64 "\n",
-               names[kind], a.number, a.stage, a.count, b.number, b.stage, b.count);
+        printf("%s differs: library %" PRIu64 " %" PRIu64 " %" PRIu64 " %" PRIu64, names[kind], a.number, a.stage, a.place,
+               a.count);
+        printf(", second %" PRIu64 " %" PRIu64 " %" PRIu64 " %" PRIu64 "%s\n", b.number, b.stage, b.place, b.count,
+               right ? "" : ", where the input's faults are others");
         printf("N %" PRIu64 " X %" PRIu64 " T %" PRIu64 " accepted %" PRIu64 " wanted %" PRIu64 "\n", c->N, c->X, c->T,
                c->accepted, c->wanted);
         for (int i = 0; i < ROWS; i++)
@@ -152,10 +229,23 @@ static void one_scene(struct call *c)
     }
 }
 
+/* Calls that are refused for faults in the input, or for a cell that falls dry. Scene i has a seed of its own. */
+static void fault_scene(struct call *c, uint64_t i)
+{
+    state = i * 0xDA942042E4DD58B5u;
+    enum kind kind = (enum kind)(draw() % KINDS);
+    if (kind != MAKE && one_in(5))
+        drying(c, kind);
+    else
+        faulty(c, kind);
+    compare(kind, c);
+}
+
 /* Whether a refusal is known to occur in a call at a stage. */
 static bool occurs(enum kind kind, int number, int stage)
 {
-    bool input = number <= 5, stages = number == 4 || number == 7 || number == 8 || number == 9;
+    bool input = number == 1 || number == 2 || number == 4 || number == 5 || (number > 30 && reads(kind, number - 31));
+    bool stages = number == 4 || number == 7 || number == 8 || number == 9;
     switch (kind) {
     case MAKE: return stage == 0 && (input || number == 7 || number == 9);
     case STEP: return stage == 0 ? input || stages || number == 11 : number == 10 ? stage == 10 : stages;
@@ -180,6 +270,52 @@ static bool seen(void)
             printf("no step settled at correction %d\n", k);
             all = false;
         }
+    return all;
+}
+
+/* Whether a refusal's place must have been met so. */
+static bool place_occurs(enum kind kind, int number, int when, int column)
+{
+    if (!has_place((uint64_t)number) || !occurs(kind, number, when == CORRECTION))
+        return false;
+    if (when != INPUT)
+        return number == 4 && kind != MAKE && column <= SEVERAL;
+    return column <= ROW_SEVERAL || (column == LATER_LOWER ? number != 5 : number == 35 || number == 36);
+}
+
+/* The places of every refusal that has one. */
+static void print_places(void)
+{
+    printf("%-40s", "places");
+    for (int column = 0; column < COLUMNS; column++)
+        printf("  %s", columns[column]);
+    printf("\n");
+    for (int kind = 0; kind < KINDS; kind++)
+        for (int number = 1; number < NUMBERS; number++)
+            for (int when = 0; when < WHENS; when++) {
+                if (!place_occurs((enum kind)kind, number, when, FIRST))
+                    continue;
+                printf("%-6s refused %2d %-23s", names[kind], number, whens[when]);
+                for (int column = 0; column < COLUMNS; column++)
+                    if (place_occurs((enum kind)kind, number, when, column))
+                        printf("  %*ld", (int)strlen(columns[column]), placed[kind][number][when][column]);
+                    else
+                        printf("  %*s", (int)strlen(columns[column]), "");
+                printf("\n");
+            }
+}
+
+static bool places_seen(void)
+{
+    bool all = true;
+    for (int kind = 0; kind < KINDS; kind++)
+        for (int number = 1; number < NUMBERS; number++)
+            for (int when = 0; when < WHENS; when++)
+                for (int column = 0; column < COLUMNS; column++)
+                    if (place_occurs((enum kind)kind, number, when, column) && !placed[kind][number][when][column]) {
+                        printf("no place of %s refused %d %s: %s\n", names[kind], number, whens[when], columns[column]);
+                        all = false;
+                    }
     return all;
 }
 
@@ -253,8 +389,11 @@ int main(int argc, char **argv)
     }
     for (size_t i = 0; i < sizeof rare / sizeof *rare; i++)
         scene_number(&c, rare[i]);
-    for (uint64_t i = 1; passed + failed < calls; i++)
+    for (uint64_t i = 1; passed + failed < calls; i++) {
         scene_number(&c, i);
+        if (i % 4 == 0)
+            fault_scene(&c, i);
+    }
     for (int kind = 0; kind < KINDS; kind++)
         for (int number = 1; number < NUMBERS; number++)
             for (int stage = 0; stage < STAGES; stage++)
@@ -262,8 +401,11 @@ int main(int argc, char **argv)
                     printf("%-6s refused %2d at stage %2d: %8ld\n", names[kind], number, stage, refused_at[kind][number][stage]);
     for (int k = 1; k <= 10; k++)
         printf("step settled at correction %2d: %8ld\n", k, settled_at[k]);
+    print_places();
     print_ties();
     if (!some && !seen())
+        failed++;
+    if (!some && !places_seen())
         failed++;
     if (!some && !ties_seen())
         failed++;

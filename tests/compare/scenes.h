@@ -23,12 +23,12 @@ struct call {
 };
 
 struct answer {
-    uint64_t number, stage, count;
+    uint64_t number, stage, place, count;
 };
 
 static struct answer of_second(struct second_answer a)
 {
-    return (struct answer){a.number, a.stage, a.count};
+    return (struct answer){a.number, a.stage, a.place, a.count};
 }
 
 static struct second_channel channel_of(struct call *c)

@@ -123,7 +123,7 @@ bool predicted_levels(const struct second_channel *channel, struct second_read_r
 {
     struct work k;
     struct sums unused;
-    if (input_refusal(&k, channel, &s))
+    if (input_refusal(&k, channel, &s).number)
         return false;
     memset(k.float_u, 0, sizeof k.float_u);
     if (predict(&k, channel, s.at) || backward(&k, &unused) || levels(&k))
@@ -131,4 +131,25 @@ bool predicted_levels(const struct second_channel *channel, struct second_read_r
     memcpy(Q, k.Q, (k.N - 1) * sizeof *Q);
     memcpy(F, k.F, k.N * sizeof *F);
     return true;
+}
+
+long dry_cells(const struct second_channel *channel, const int64_t *s, uint64_t stage)
+{
+    struct work k;
+    struct sums unused;
+    long dry = 0;
+    input_refusal(&k, channel, NULL);
+    memset(k.float_u, 0, sizeof k.float_u);
+    if (s)
+        predict(&k, channel, s);
+    else
+        filter_sweep(&k, channel);
+    for (uint64_t i = 0; i < stage; i++) {
+        backward(&k, &unused);
+        levels(&k);
+        correct(&k, channel, &unused);
+    }
+    for (size_t j = 0; j < k.N; j++)
+        dry += k.H[j] < H_LEAST;
+    return dry;
 }

@@ -32,4 +32,7 @@ extern int turned;
 /* The trial's Q and F at the end of a step's prediction; whether the step comes so far. */
 bool predicted_levels(const struct second_channel *channel, struct second_read_row s, int64_t *Q, int64_t *F);
 
+/* How many cells have too little water at a stage of a step that is refused 4 there, or in a filter pass (s is NULL). */
+long dry_cells(const struct second_channel *channel, const int64_t *s, uint64_t stage);
+
 #endif

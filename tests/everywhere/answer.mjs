@@ -29,16 +29,18 @@ function string() {
     return { bytes, kept };
 }
 
+const done = (count = 0) => ({ number: 0, stage: 0, place: 0, count });
+
 const does = [
     (n, file, [depths, heights, velocities]) => {
         const made = pathpetal.make({ cells: n[0], widthMm: n[1], stepMs: n[2], wanted: n[3], depths, heights, velocities }, file);
         if (made !== file)
             throw new Error('make gave other bytes than it was lent');
-        return { number: 0, stage: 0, count: 0 };
+        return done();
     },
-    (n, file, [poured]) => ({ number: 0, stage: 0, count: pathpetal.step(file, poured) }),
-    (n, file) => (pathpetal.filter(file), { number: 0, stage: 0, count: 0 }),
-    (n, file) => (pathpetal.check(file), { number: 0, stage: 0, count: 0 }),
+    (n, file, [poured]) => done(pathpetal.step(file, poured)),
+    (n, file) => (pathpetal.filter(file), done()),
+    (n, file) => (pathpetal.check(file), done()),
     (n, file) => pathpetal.run(file, n[0]),
 ];
 
@@ -59,7 +61,7 @@ while (at < from.length) {
     const file = string(), rows = [string(), string(), string()];
     const told = answer(kind, n, file.bytes, rows.map((row) => row.bytes));
     const out = Buffer.alloc(13 + file.bytes.length);
-    out.writeBigUInt64LE(BigInt(told.count) * 65536n + BigInt(told.number * 256 + told.stage));
+    out.writeBigUInt64LE(BigInt(told.count) * 33554432n + BigInt(told.place * 65536 + told.number * 256 + told.stage));
     out.writeUInt32LE(file.bytes.length, 8);
     out.set(file.bytes, 12);
     out[out.length - 1] = file.kept(false) && rows.every((row) => row.kept(true)) ? 1 : 0;

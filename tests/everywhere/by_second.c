@@ -16,12 +16,12 @@ struct rows {
 
 static uint64_t packed(struct second_answer a)
 {
-    return a.count * 65536 + a.number * 256 + a.stage;
+    return a.count * 33554432 + a.place * 65536 + a.number * 256 + a.stage;
 }
 
-static uint64_t refused(uint64_t number)
+static uint64_t refused(unsigned number, size_t place)
 {
-    return number * 256;
+    return packed((struct second_answer){.number = number, .place = (unsigned)place});
 }
 
 static bool cells_allowed(uint64_t cells)
@@ -50,12 +50,19 @@ static void take(int64_t *row, const uint8_t *bytes, size_t N)
         row[j] = pathpetal_signed(bytes + 4 * j);
 }
 
-static bool poured_allowed(const int64_t *s, size_t N)
+/* The lowest cell, from 1, whose poured amount is out of its range; 0 if there is none. */
+static size_t poured_place(const int64_t *s, size_t N)
 {
     for (size_t j = 0; j < N; j++)
         if (s[j] < -POURED_MOST || s[j] > POURED_MOST)
-            return false;
-    return true;
+            return j + 1;
+    return 0;
+}
+
+/* Whether a refusal is of what is given, and not of what comes of it. */
+static bool of_input(unsigned number)
+{
+    return (number >= PATHPETAL_SHAPE && number <= PATHPETAL_DOMINANCE) || number >= PATHPETAL_BAD_DEPTH;
 }
 
 /* A channel that a call accepted, back in the bytes it came from. */
@@ -72,17 +79,17 @@ uint64_t by_second_make(uint64_t cells, uint64_t width_mm, uint64_t step_ms, uin
     struct rows rows;
     size_t N = (size_t)cells;
     if (!cells_allowed(cells) || depths_len != 4 * N || heights_len != 4 * N || velocities_len != 4 * N)
-        return refused(PATHPETAL_SHAPE);
+        return refused(PATHPETAL_SHAPE, 0);
     struct second_channel channel = lend(&rows, N);
     channel.X = width_mm, channel.T = step_ms, channel.wanted = wanted;
     take(rows.h, depths, N);
     take(rows.e, heights, N);
     take(rows.u, velocities, N);
     struct second_answer a = second_make(&channel);
-    if (a.number >= PATHPETAL_SHAPE && a.number <= PATHPETAL_DOMINANCE)
+    if (of_input(a.number))
         return packed(a);
     if (file_len != pathpetal_length(N))
-        return refused(PATHPETAL_BUFFER);
+        return refused(PATHPETAL_BUFFER, 0);
     return a.number ? packed(a) : written(a, &channel, file, file_len);
 }
 
@@ -104,12 +111,12 @@ uint64_t by_second_step(uint8_t *file, size_t file_len, const uint8_t *poured, s
         return packed(a);
     size_t N = pathpetal_cells(file);
     if (poured_len != 4 * N)
-        return refused(PATHPETAL_SHAPE);
+        return refused(PATHPETAL_SHAPE, 0);
     if (a.number && a.number != PATHPETAL_DEPTH && a.number != PATHPETAL_DOMINANCE)
         return packed(a);
     take(s, poured, N);
-    if (!poured_allowed(s, N))
-        return refused(PATHPETAL_VALUE);
+    if (poured_place(s, N))
+        return refused(PATHPETAL_BAD_POURED, poured_place(s, N));
     if (a.number)
         return packed(a);
     a = second_step(&channel, (struct second_read_row){s, N});
@@ -130,7 +137,7 @@ uint64_t by_second_filter(uint8_t *file, size_t file_len)
 static struct second_answer steps(struct second_channel *channel, uint64_t most)
 {
     static const int64_t nothing[CELLS];
-    struct second_answer a = {0, 0, 0};
+    struct second_answer a;
     if (most >= channel->wanted - channel->accepted)
         return second_run(channel);
     for (uint64_t count = 0; count < most; count++) {
@@ -140,7 +147,7 @@ static struct second_answer steps(struct second_channel *channel, uint64_t most)
             return a;
         }
     }
-    return (struct second_answer){PATHPETAL_MORE, 0, most};
+    return (struct second_answer){.number = PATHPETAL_MORE, .count = most};
 }
 
 uint64_t by_second_run(uint8_t *file, size_t file_len, uint64_t most)

@@ -1,6 +1,6 @@
 /* calls write CALLS: draws calls of pathpetal.h from one seed and writes them to the file CALLS. What each would
-   answer is asked of the second program, so that accepted calls, each refusal at each stage and each k from 1 to 10
-   all have their share.
+   answer is asked of the second program, so that accepted calls, each refusal at each stage, the first, middle and last
+   places of those that have one, and each k from 1 to 10 all have their share.
    calls table CALLS ANSWERS: prints how often each answer occurred; fails if one that is known to occur did not, or if
    a call touched a byte that is not its own.
    calls differ CALLS ANSWERS OTHERS..: prints the first calls that one of the OTHERS answers differently, and last 'N
@@ -12,7 +12,7 @@
 
 #include <inttypes.h>
 
-enum { REASONS = 17, STAGES = 11, EACH = 5000, MOST_DRAWN = 4000000 };
+enum { REASONS = 38, STAGES = 11, EACH = 5000, MOST_DRAWN = 4000000 };
 static const char *const names[DO_KINDS] = {"make", "step", "filter", "check", "run"};
 
 enum { V_HALVES, FLUX_HALVES, U_HALVES, THIN, FAULTS, EDGE, VIOLENT, ANY, DRAWN, SCENES };
@@ -28,20 +28,77 @@ static const char *const scenes[SCENES] = {
     "drawn at random",
 };
 
-/* How often each answer occurred, of a step by its k too, and each scene. */
-static long total[DO_KINDS], answered[DO_KINDS][REASONS][STAGES], settled[STAGES], shown[SCENES][DO_KINDS];
+enum { AT_FIRST, BETWEEN, AT_LAST, PLACES };
+static const char *const places[PLACES] = {"the first place", "a place between", "the last place"};
+
+/* How often each answer occurred, of a step by its k too, of a refusal by where its place is, and each scene. */
+static long total[DO_KINDS], answered[DO_KINDS][REASONS][STAGES], settled[STAGES], placed[DO_KINDS][REASONS][PLACES],
+            shown[SCENES][DO_KINDS];
+
+/* How often a flux and an acceleration were refused in one level while an older one has a fault at a lower place. */
+static long older_lower[2];
+
+static bool has_place(unsigned number)
+{
+    return number == PATHPETAL_DEPTH || number == PATHPETAL_DOMINANCE || number >= PATHPETAL_BAD_DEPTH;
+}
+
+/* The cells, or faces, that a refusal's place is one of. */
+static unsigned last_place(const struct record *r, unsigned number)
+{
+    unsigned cells = r->kind == DO_MAKE ? (unsigned)r->number[0] : pathpetal_cells(r->string[FILE_STRING].at);
+    return number == PATHPETAL_BAD_FLUX ? cells - 1 : cells;
+}
+
+static int where(const struct record *r, unsigned number, unsigned place)
+{
+    return place == 1 ? AT_FIRST : place == last_place(r, number) ? AT_LAST : BETWEEN;
+}
+
+/* The lowest place of a level of fluxes or accelerations whose value is out of its range; one behind the last if none
+   is. */
+static unsigned lowest_in_level(const struct record *r, unsigned number, unsigned level)
+{
+    const uint8_t *file = r->string[FILE_STRING].at;
+    unsigned len = last_place(r, number), place = 1;
+    uint64_t bound = number == PATHPETAL_BAD_FLUX ? 1000000000000000 : 100000000000;
+    const uint8_t *row = file + pathpetal_word(file + (number == PATHPETAL_BAD_FLUX ? 40 : 44)); /* by its offset */
+    for (const uint8_t *at = row + 8 * (size_t)(level * len); place <= len; place++, at += 8) {
+        uint64_t value = pathpetal_word(at) | (uint64_t)pathpetal_word(at + 4) << 32;
+        if (value + bound > 2 * bound)
+            break;
+    }
+    return place;
+}
+
+static bool lower_in_older(const struct record *r, unsigned number, unsigned place)
+{
+    unsigned level = 0;
+    while (level < 3 && lowest_in_level(r, number, level) != place)
+        level++;
+    while (++level < 3)
+        if (lowest_in_level(r, number, level) < place)
+            return true;
+    return false;
+}
 
 /* Counts an answer; 0 if it is none that a call can give. */
 static bool counted(const struct record *r, uint64_t answer)
 {
-    unsigned number = pathpetal_number(answer), stage = pathpetal_stage(answer);
+    unsigned number = pathpetal_number(answer), stage = pathpetal_stage(answer), place = pathpetal_place(answer);
     uint64_t count = pathpetal_count(answer);
     if (r->kind >= DO_KINDS || r->scene >= SCENES || number >= REASONS || stage >= STAGES)
         return false;
     if (r->kind == DO_STEP && number == 0 && (count < 1 || count > 10))
         return false;
+    if (has_place(number) ? place < 1 || place > last_place(r, number) : place != 0)
+        return false;
     total[r->kind]++;
     answered[r->kind][number][stage]++;
+    if (place)
+        placed[r->kind][number][where(r, number, place)]++;
+    if (number == PATHPETAL_BAD_FLUX || number == PATHPETAL_BAD_ACCELERATION)
+        older_lower[number - PATHPETAL_BAD_FLUX] += lower_in_older(r, number, place);
     shown[r->scene][r->kind]++;
     if (r->kind == DO_STEP && number == 0)
         settled[count]++;
@@ -51,13 +108,14 @@ static bool counted(const struct record *r, uint64_t answer)
 /* What is known to occur. 6 is not: no channel is known that meets it. */
 static bool due(unsigned kind, unsigned number, unsigned stage)
 {
-    bool input = (number >= 1 && number <= 5) || (number >= 12 && number <= 14);
+    bool made = number == 1 || number == 2 || number == 4 || number == 5 || (number >= 31 && number <= 33);
+    bool input = made || (number >= 12 && number <= 14) || (number >= 34 && number <= 36);
     switch (kind) {
-    case DO_MAKE: return stage == 0 && (number <= 5 || number == 7 || number == 9 || number == 15);
+    case DO_MAKE: return stage == 0 && (number == 0 || made || number == 7 || number == 9 || number == 15);
     case DO_CHECK: return stage == 0 && (number == 0 || input);
     case DO_FILTER: return stage == 0 && (number == 0 || input || number == 11 || (number >= 7 && number <= 9));
     case DO_RUN: input |= number == 0 || number == 16; break;
-    default: input |= number == 0 || number == 11; break;
+    default: input |= number == 0 || number == 11 || number == 37; break;
     }
     if (stage == 0)
         return input || (number >= 7 && number <= 9);
@@ -84,7 +142,20 @@ static long missing(bool say)
                     if (say)
                         printf("%s never answered %u at stage %u\n", names[kind], number, stage);
                 }
+        for (unsigned number = 0; number < REASONS; number++)
+            for (unsigned i = 0; i < PLACES && has_place(number) && due(kind, number, 0); i++)
+                if (!placed[kind][number][i]) {
+                    n++;
+                    if (say)
+                        printf("%s never answered %u with %s\n", names[kind], number, places[i]);
+                }
     }
+    for (unsigned i = 0; i < 2; i++)
+        if (older_lower[i] < 50) {
+            n++;
+            if (say)
+                printf("refusal %u seldom stood before a lower place in an older level\n", PATHPETAL_BAD_FLUX + i);
+        }
     for (int k = 1; k <= 10; k++)
         if (!settled[k]) {
             n++;
@@ -120,6 +191,8 @@ static bool share_left(uint64_t answer)
     unsigned number = pathpetal_number(answer), stage = pathpetal_stage(answer);
     long share = number == 0 || number == PATHPETAL_MORE ? 2600 : stage == 0 ? 300 : 80;
     if (r.scene <= FAULTS && shown[r.scene][r.kind] < 400)
+        return true;
+    if (has_place(number) && placed[r.kind][number][where(&r, number, pathpetal_place(answer))] < 40)
         return true;
     if (r.kind == DO_STEP && number == 0)
         return settled[pathpetal_count(answer)] < 250;
@@ -300,6 +373,28 @@ static void thin(struct call *c)
     c->row[ROW_V][0] = between(-20000000, 20000000);
 }
 
+/* A value that is out of its range, or would be in another row: in the first, the last or any place of any level. */
+static void wrong_value(struct call *c)
+{
+    int row = (int)PICK(ROW_h, ROW_e, ROW_u, ROW_V, ROW_Q, ROW_F);
+    int64_t sign = PICK(1, -1), size = PICK(20001, 20000001, 2000000001, 1000000000000001);
+    size_t levels = row < ROW_Q ? 1 : 3, len = c->len[row] / levels, any = (size_t)(draw() % len);
+    size_t at = (size_t)PICK(0, (int64_t)len - 1, (int64_t)any), level = (size_t)(draw() % levels);
+    c->row[row][level * len + at] = sign * size;
+}
+
+/* Fluxes or accelerations out of their range in two levels or three, each at any place. */
+static void wrong_levels(struct call *c)
+{
+    int row = (int)PICK(ROW_Q, ROW_F);
+    size_t len = c->len[row] / 3, without = (size_t)(draw() % 4);
+    for (size_t level = 0; level < 3; level++) {
+        size_t at = (size_t)(draw() % len);
+        if (level != without)
+            c->row[row][level * len + at] = row == ROW_Q ? 1000000000000001 : -100000000001;
+    }
+}
+
 /* A channel with some of the faults of its counts and values, and a poured row beside it with some of its own. */
 static void faulty(struct call *c)
 {
@@ -307,22 +402,27 @@ static void faulty(struct call *c)
     lengths(c, N);
     memset(c->row, 0, sizeof c->row);
     c->X = 500, c->T = (uint64_t)between(1, 20), c->wanted = 9, c->accepted = (uint64_t)between(0, 8);
+    bool steep = one_in(4); /* in one cell, far less deep than those beside it */
     for (size_t i = 0; i < N; i++)
-        c->row[ROW_h][i] = 1000, c->row[ROW_e][i] = between(-500, 500);
+        c->row[ROW_h][i] = steep ? 3000 : 1000, c->row[ROW_e][i] = between(-500, 500);
+    if (steep)
+        c->row[ROW_h][PICK(0, (int64_t)N - 1, (int64_t)j)] = 1000;
     if (one_in(4))
         c->X = (uint64_t)PICK(9, 5001);
     if (one_in(4))
         c->accepted = (uint64_t)PICK(9, 9, 9, 10);
-    if (one_in(4)) {
-        int64_t sign = PICK(1, -1), size = PICK(20001, 20000001, 2000000001, 1000000000000001);
-        c->row[PICK(ROW_h, ROW_e, ROW_u, ROW_V, ROW_Q, ROW_F)][j] = sign * size;
-    }
+    for (int64_t wrong = one_in(2) ? between(1, 4) : 0; wrong > 0; wrong--)
+        wrong_value(c);
+    if (one_in(6))
+        wrong_levels(c);
     if (one_in(3))
         c->row[ROW_e][(j + 1) % N] = -999001;
     if (one_in(3))
         c->row[ROW_h][(j + 2) % N] = 20000;
-    if (one_in(3))
-        c->row[ROW_s][(j + 3) % N] = PICK(1, -1) * 1000001;
+    for (int64_t wrong = one_in(3) ? between(1, 2) : 0; wrong > 0; wrong--) {
+        size_t at = (size_t)(draw() % N);
+        c->row[ROW_s][at] = PICK(1, -1) * 1000001;
+    }
 }
 
 /* Calls with several faults: of the channel, of the file around it, of the room for it. */
@@ -443,6 +543,16 @@ static int table(const char *calls, const char *answers)
     for (int k = 1; k <= 10; k++)
         printf(" %ld", settled[k]);
     printf("\n");
+    printf("places of each refusal that has one, over all calls: the first, between, the last\n");
+    for (unsigned number = 0; number < REASONS; number++) {
+        long of[PLACES] = {0};
+        for (unsigned kind = 0; kind < DO_KINDS; kind++)
+            for (unsigned i = 0; i < PLACES; i++)
+                of[i] += placed[kind][number][i];
+        if (has_place(number))
+            printf("%2u: %ld %ld %ld\n", number, of[AT_FIRST], of[BETWEEN], of[AT_LAST]);
+    }
+    printf("35 and 36 before a lower place in an older level: %ld %ld\n", older_lower[0], older_lower[1]);
     for (unsigned i = 0; i < SCENES; i++) {
         printf("%s:", scenes[i]);
         for (unsigned kind = 0; kind < DO_KINDS; kind++)

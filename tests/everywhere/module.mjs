@@ -4,7 +4,7 @@ import assert from 'node:assert/strict';
 import { readFileSync } from 'node:fs';
 import { createServer } from 'node:http';
 import { pathToFileURL } from 'node:url';
-import { fileLength, load, reasons, Refusal, row } from '../../include/pathpetal.mjs';
+import { fileLength, load, Pathpetal, reasons, Refusal, row } from '../../include/pathpetal.mjs';
 
 const [wasm, header] = process.argv.slice(2);
 const bytes = readFileSync(wasm);
@@ -26,9 +26,9 @@ const start = (cells = 8) => ({
     cells, widthMm: 500, stepMs: 20, wanted: 5,
     depths: still(cells, 1000), heights: row(Array.from({ length: cells }, (_, j) => (j === 2 ? 9000 : 0))), velocities: still(cells, 0),
 });
-const refused = (number, stage) => (error) =>
+const refused = (number, stage, place = 0) => (error) =>
     error instanceof Refusal && error instanceof Error && error.name === 'Refusal' && error.number === number && error.stage === stage &&
-    error.count === 0 && error.words === reasons[number] && error.message.includes(error.words);
+    error.place === place && error.count === 0 && error.words === reasons[number] && error.message.includes(error.words);
 
 await test('the file exports the five calls and its memory, and needs nothing', async () => {
     const module = await WebAssembly.compile(bytes);
@@ -40,10 +40,42 @@ await test('the file exports the five calls and its memory, and needs nothing', 
 await test('the words are those of pathpetal.h', () => {
     const text = readFileSync(header, 'utf8');
     const list = text.slice(text.indexOf('enum pathpetal_reason'), text.indexOf('};'));
-    const words = [''];
+    const words = { 0: '' };
     for (const [, number, comment] of list.matchAll(/= (\d+),?\s*\/\*(.*?)\*\//gs))
-        words[Number(number)] = comment.replace(/\s+/g, ' ').trim();
-    assert.deepEqual([...reasons], words);
+        words[number] = comment.replace(/\s+/g, ' ').trim();
+    assert.deepEqual({ ...reasons }, words);
+    assert.deepEqual(Object.keys(reasons).map(Number), [0, 1, 2, 4, 5, 6, 7, 8, 9, 10, 11, 12, 13, 14, 15, 16, 31, 32, 33, 34, 35, 36, 37]);
+    assert.ok(Object.isFrozen(reasons));
+});
+
+await test('the parts of an answer come back, and a message names the cell or the face', () => {
+    let answer = 0n;
+    const call = () => BigInt.asIntN(64, answer); // as WebAssembly gives it
+    const answering = new Pathpetal({
+        exports: { memory: new WebAssembly.Memory({ initial: 1 }), ...Object.fromEntries(['make', 'check', 'step', 'filter', 'run'].map((name) => [`pathpetal_${name}`, call])) },
+    });
+    const packed = (number, stage, place, count) => BigInt(count) * 33554432n + BigInt(place * 65536 + number * 256 + stage);
+    const file = new Uint8Array(0);
+    for (const number of [0, 4, 5, 16, 31, 35, 37])
+        for (const stage of [0, 1, 10])
+            for (const place of [0, 1, 255, 256])
+                for (const count of [0, 1, 999_999, 1_000_000]) {
+                    answer = packed(number, stage, place, count);
+                    const words = reasons[number];
+                    assert.deepEqual(answering.run(new Uint8Array(1)), { complete: number === 0, number, stage, place, count, words });
+                }
+    for (const [number, stage, place, message] of [
+        [31, 0, 40, 'refused 31 in cell 40: a depth is not 1 to 20,000 mm'],
+        [35, 0, 7, 'refused 35 at face 7: a flux is not within 10^15 um2/s'],
+        [37, 0, 256, 'refused 37 in cell 256: a poured amount is not within 1,000,000 um'],
+        [4, 2, 3, 'refused 4 in cell 3 at correction 2: a cell has less than 1 mm of water: it fell dry, or nearly so'],
+        [7, 10, 0, 'refused 7 at correction 10: the water became faster than 20 m/s'],
+        [13, 0, 0, 'refused 13: not a channel file of edition 1'],
+    ]) {
+        answer = packed(number, stage, place, 0);
+        assert.throws(() => answering.check(file), refused(number, stage, place));
+        assert.throws(() => answering.step(file, file), { message, place });
+    }
 });
 
 await test('load takes bytes, a buffer, a URL, its text, a response and the promise of one', async () => {
@@ -81,13 +113,43 @@ await test('make, read, step, run and filter', () => {
     });
     assert.equal(pathpetal.step(file, still(8, 0)), 2);
     assert.equal(pathpetal.read(file).accepted, 1);
-    assert.deepEqual(pathpetal.run(file, 3), { complete: false, number: 16, stage: 0, count: 3, words: reasons[16] });
+    assert.deepEqual(pathpetal.run(file, 3), { complete: false, number: 16, stage: 0, place: 0, count: 3, words: reasons[16] });
     assert.equal(pathpetal.filter(file), undefined);
-    assert.deepEqual(pathpetal.run(file), { complete: true, number: 0, stage: 0, count: 1, words: '' });
+    assert.deepEqual(pathpetal.run(file), { complete: true, number: 0, stage: 0, place: 0, count: 1, words: '' });
     assert.equal(pathpetal.read(file).complete, true);
     assert.throws(() => pathpetal.step(file, still(8, 0)), refused(11, 0));
     assert.throws(() => pathpetal.filter(file), refused(11, 0));
-    assert.deepEqual(pathpetal.run(file), { complete: true, number: 0, stage: 0, count: 0, words: '' });
+    assert.deepEqual(pathpetal.run(file), { complete: true, number: 0, stage: 0, place: 0, count: 0, words: '' });
+});
+
+await test('what is refused for a value names its cell or face', () => {
+    const changed = (bytes, at, value, big = false) => {
+        const view = new DataView(bytes.buffer, bytes.byteOffset);
+        big ? view.setBigInt64(at, BigInt(value), true) : view.setInt32(at, value, true);
+        return bytes;
+    };
+    const with_row = (name, cell, value) => ({ ...start(), [name]: changed(start()[name].slice(), 4 * (cell - 1), value) });
+    assert.throws(() => pathpetal.make(with_row('depths', 6, 0)), refused(31, 0, 6));
+    assert.throws(() => pathpetal.make(with_row('heights', 8, 20_000_001)), refused(32, 0, 8));
+    assert.throws(() => pathpetal.make(with_row('velocities', 1, -20_000_001)), refused(33, 0, 1));
+    assert.throws(() => pathpetal.make(with_row('heights', 5, -999_001)), refused(4, 0, 5));
+    assert.throws(() => pathpetal.make({ ...with_row('depths', 6, 0), heights: still(8, 20_000_001) }), refused(31, 0, 6));
+    assert.throws(() => pathpetal.step(pathpetal.make(start()), row([0, 0, 0, 0, 0, 0, 0, -1_000_001])), refused(37, 0, 8));
+    const flux = 48 + 16 * 8, acceleration = 24 + 40 * 8;
+    for (const [at, value, number, place] of [[flux + 8 * 6, 10n ** 15n + 1n, 35, 7], [flux + 8 * 8, -(10n ** 15n) - 1n, 35, 2], [acceleration + 8 * 23, 10n ** 11n + 1n, 36, 8]]) {
+        const file = changed(pathpetal.make(start()), at, value, true), before = file.slice();
+        for (const call of [() => pathpetal.check(file), () => pathpetal.read(file), () => pathpetal.filter(file)])
+            assert.throws(call, refused(number, 0, place));
+        assert.deepEqual(pathpetal.run(file), { complete: false, number, stage: 0, place, count: 0, words: reasons[number] });
+        assert.deepEqual(file, before);
+    }
+    // 1 mm of water, and more than that flows out of cells 3 and 6
+    const dry = pathpetal.make({ ...start(), widthMm: 1000, stepMs: 1, depths: still(8, 2), heights: row([0, 0, -1000, 0, 0, -1000, 0, 0]) });
+    for (let level = 0; level < 3; level++)
+        for (const face of [3, 6])
+            changed(dry, flux + 8 * (7 * level + face - 1), 10 ** 9, true);
+    assert.throws(() => pathpetal.step(dry, still(8, 0)), refused(4, 0, 3));
+    assert.deepEqual(pathpetal.run(dry), { complete: false, number: 4, stage: 0, place: 3, count: 0, words: reasons[4] });
 });
 
 await test('bytes of a view into a larger buffer', () => {
@@ -103,7 +165,7 @@ await test('a refused call leaves every byte', () => {
     const before = file.slice();
     for (const call of [() => pathpetal.check(file), () => pathpetal.read(file), () => pathpetal.step(file, still(8, 0)), () => pathpetal.filter(file)])
         assert.throws(call, refused(2, 0));
-    assert.deepEqual(pathpetal.run(file), { complete: false, number: 2, stage: 0, count: 0, words: reasons[2] });
+    assert.deepEqual(pathpetal.run(file), { complete: false, number: 2, stage: 0, place: 0, count: 0, words: reasons[2] });
     assert.throws(() => pathpetal.make({ ...start(), wanted: 0 }, file), refused(2, 0));
     assert.throws(() => pathpetal.make(start(), file.subarray(1)), refused(15, 0));
     assert.deepEqual(file, before);

@@ -1,5 +1,5 @@
 """A START that is damaged, files of the wrong kind, and places that meet."""
-import os, random, shutil, struct
+import os, random, re, shutil, struct
 
 from common import (COUNTS, DONE, OPEN, OPTIONS, REFUSED, TOP, check, forget, from_shell, go, group, listing, read,
     start, taken, tested, write)
@@ -17,9 +17,7 @@ def start_faults(begin):
            "2^31 cells": (begin[:4] + b"\0\0\0\x80" + begin[8:], 1),
            "offsets": (begin[:24] + b"\x31" + begin[25:], 14), "width 0": (begin[:8] + bytes(4) + begin[12:], 2),
            "more accepted than wanted": (begin[:16] + struct.pack("<I", 301) + begin[20:], 2),
-           "depth 0": (begin[:48] + bytes(4) + begin[52:], 3),
-           "dry": (begin[:168] + struct.pack("<i", -900000) + begin[172:], 4), "a survey": (read("start.csv"), 12),
-           "text": (b"hello\n" * 200, 13)}
+           "a survey": (read("start.csv"), 12), "text": (b"hello\n" * 200, 13)}
     if len(read("start.csv")) >= 48:
         bad["a survey"] = (read("start.csv"), 13)
     for name, (data, number) in bad.items():
@@ -60,6 +58,68 @@ def start_faults(begin):
     os.remove("loop")
     os.remove("bad.channel")
     os.rmdir("folder")
+
+
+CELL_ROWS = {31: (0, 0, 20001, "a depth is 1 to 20,000 mm"),
+    32: (1, -20000001, 20000001, "a height is -20,000,000 to 20,000,000 um"),
+    33: (2, -20000001, 20000001, "a velocity is -20,000,000 to 20,000,000 um/s"),
+    34: (3, -2000000001, 2000000001, "a reduced velocity is -2,000,000,000 to 2,000,000,000 um/s")}
+LEVELS = {35: (10 ** 15 + 1, "a flux is -10^15 to 10^15 um2/s"),
+    36: (10 ** 11 + 1, "an acceleration is -10^11 to 10^11 um/s2")}
+
+
+def bad_rows(begin):
+    group("START with values that are refused, by row and cell")
+    cells = counts(begin)[0]
+
+    def changed(values):
+        """`begin` with other values: by row 0 to 5 and entry from 0."""
+        data = bytearray(begin)
+        for (row, j), value in values.items():
+            if row < 4:
+                struct.pack_into("<i", data, 48 + 4 * (cells * row + j), value)
+            else:
+                struct.pack_into("<q", data, (48 + 16 * cells if row == 4 else 24 + 40 * cells) + 8 * j, value)
+        return bytes(data)
+
+    def tried(values, says, name):
+        write("bad.channel", changed(values))
+        says = f"pathpetal: bad.channel: refused, number {says}\n" \
+            "pathpetal: to mend: take a fresh copy of the file, or make it again from its survey\n"
+        for line in (("run", "bad.channel", "-o", "bad.end"), ("show", "bad.channel"), ("check", "bad.channel")):
+            before = listing()
+            go(*line, status=REFUSED, says=f"^{re.escape(says)}$", name=f"{line[0]}: {name}")
+            check(listing() == before, f"{line[0]}: {name}: something was written or changed")
+
+    for number, (row, least, most, words) in CELL_ROWS.items():
+        for j, value in ((0, least), (14, most), (cells - 1, least), (7, most)):
+            tried({(row, j): value}, f"{number}, in cell {j + 1}: {words}, not {value:,}", f"row {row}, cell {j + 1}")
+        tried({(row, 3): most, (row, 9): least}, f"{number}, in cell 4: {words}, not {most:,}", f"row {row}, twice")
+    for number, (most, words) in LEVELS.items():
+        row, size = number - 31, cells - 1 if number == 35 else cells
+        # face or cell j of a level, the newest first
+        place = lambda j: f"at face {j}, between cells {j} and {j + 1}" if number == 35 else f"in cell {j}"
+        for values, j in (({0: most}, 1), ({8: -most}, 9), ({size - 1: most}, size), ({size: most}, 1),
+            ({2 * size: -most}, 1), ({3 * size - 1: most}, size), ({size + 4: most, 2 * size + 1: most}, 5),
+            ({6: -most, size + 1: most}, 7), ({size - 1: most, 2 * size: most}, size), ({5: most, 3: -most}, 4)):
+            tried({(row, at): value for at, value in values.items()},
+                f"{number}, {place(j)}: {words}, but not in all three levels here", f"levels of row {row}: {values}")
+    depth, second, third = struct.unpack_from("<3i", begin, 48)
+    tried({(0, 8): 0, (1, 0): 20000001}, "31, in cell 9: a depth is 1 to 20,000 mm, not 0", "a depth before a height")
+    tried({(3, 0): 2000000001, (2, 29): 20000001},
+        "33, in cell 30: a velocity is -20,000,000 to 20,000,000 um/s, not 20,000,001", "33 before 34")
+    tried({(5, 0): 10 ** 12, (4, 86): 10 ** 16},
+        "35, at face 29, between cells 29 and 30: a flux is -10^15 to 10^15 um2/s, but not in all three levels here",
+        "35 before 36")
+    tried({(1, 0): -1000 * depth + 999, (5, 89): 10 ** 12},
+        "36, in cell 30: an acceleration is -10^11 to 10^11 um/s2, but not in all three levels here", "36 before 4")
+    tried({(1, 0): -1000 * depth + 999},
+        f"4, in cell 1: less than 1 mm of water is left: a depth of {depth:,} mm, a height of {999 - 1000 * depth:,} um",
+        "a dry cell")
+    steep = "the bottom is too steep for cells this narrow"
+    tried({(0, 0): 20000}, f"5, in cell 2: {steep}: {second:,} mm beside 20,000 and {third:,} mm", "a steep bottom")
+    tried({(0, 1): 20000}, f"5, in cell 1: {steep}: {depth:,} mm beside 20,000 mm", "a steep bottom at the left wall")
+    forget("bad.channel")
 
 
 def other_files(begin, record):

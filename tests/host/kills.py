@@ -71,7 +71,7 @@ def interrupted(options, begin, end, record, wanted, every, where):
     for k in range(100):
         if sum(stopped.values()) >= wanted and all(stopped.values()):
             break
-        name, tries, reached = list(stopped)[k % 3], 0, 0
+        name, tries, reached = list(stopped)[k % 3], 0, None  # the count in END, where there is one
         while True:
             tries += 1
             process = start(*command, *(("--replace",) if k % 4 == 3 else ()))
@@ -82,7 +82,7 @@ def interrupted(options, begin, end, record, wanted, every, where):
             check(read("long.channel") == begin, "START has its bytes")
             if process.returncode == -name:
                 early += 1  # before the program began to listen: nothing may have changed
-                check(os.path.exists("i.channel") == (reached > 0), "ended before it began: no END")
+                check(os.path.exists("i.channel") == (reached is not None), "ended before it began: END is as it was")
                 continue
             if process.returncode == DONE:
                 late += tries <= 3
@@ -95,7 +95,7 @@ def interrupted(options, begin, end, record, wanted, every, where):
             if reached:
                 check(b"i.channel: is of this run, cut before: goes on after step" in err, f"goes on: {err!r}")
             end_is_true("i.channel", "interrupted", False)
-            check(reached <= counts(read("i.channel"))[1] < 3000 and not os.path.exists("i.csv"),
+            check((reached or 0) <= counts(read("i.channel"))[1] < 3000 and not os.path.exists("i.csv"),
                 "END says open, and no record has its name")
             reached = counts(read("i.channel"))[1]
             check(whole_record(read("i.csv.open"), f"open: {reached} of 3000 steps accepted"), "the record says open")

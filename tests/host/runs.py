@@ -71,7 +71,7 @@ def cut_and_gone_on(begin, end, record):
               b"".join(f"{step + 1},{cell},-1000000\n".encode() for cell in range(1, 9)))
         go("run", "start.channel", "-o", "cut.check", *(word if word != "pour.csv" else "dry.csv" for word in OPTIONS),
             "--record", "cut.csv", status=OPEN,
-            says=f"step {step + 1} of 300 was refused .*number 4, stage 0.*less than 1 mm.*cut.csv.open: holds the "
+            says=rf"step {step + 1} of 300 was refused .*number 4, stage 0\){dry(1, 1000)}.*cut.csv.open: holds the "
                  "record")
         rows = read("cut.csv.open")
         check(whole_record(rows, f"open: {step} of 300 steps accepted"), "the open record says open")
@@ -145,8 +145,18 @@ def cut_and_gone_on(begin, end, record):
 
 
 LESS = "pour in or take out less in one step"
-DEEPER = r"make the water deeper where it falls dry or the waves lower, or take a filter pass more often \(every 20 " \
-    r"steps\) or narrower cells"
+
+
+def dry(cell, width):
+    """What is said of a cell that fell dry in a channel with cells of that width in mm, to the end of the line."""
+    middle = (2 * cell - 1) * width // 2
+    return rf", in cell {cell}, {middle // 1000}\.{middle % 1000:03} m from the left wall: less than 1 mm of water is " \
+        "left\n"
+
+
+def deeper(cell):
+    return f"make the water deeper in cell {cell}, which fell dry, or the waves lower, or take a filter pass more " \
+        r"often \(every 20 steps\) or narrower cells"
 
 
 def root(number):
@@ -180,7 +190,7 @@ def advice():
             why = r"\(the Courant number is just above the 0\.35 that is advised\)"
         if step <= longest:
             told["neither"] += 1
-            words = f"to mend: {LESS}\npathpetal: or {DEEPER}"
+            words = f"to mend: {LESS}\npathpetal: or {deeper(4)}"
         elif longest >= 1:
             told["a time step"] += 1
             words = f"to mend: take a shorter time step: at most {longest:,} ms for cells of {width:,} mm and a " \
@@ -190,7 +200,8 @@ def advice():
             words = f"to mend: take wider cells: at least {root((981 * depth, 12250)):,} mm for a time step of 1 ms " \
                 rf"and a depth of {depth:,} mm {why}\npathpetal: or {LESS}"
         go("run", "a.channel", "-o", "a.end", "--pour", "a.pour", status=OPEN, name=f"{width}, {depth}, {step}",
-            says=rf"\(number 4, stage 0\): [^\n]*\npathpetal: {words}\npathpetal: a.end: open: 0 of 9 steps accepted")
+            says=rf"\(number 4, stage 0\){dry(4, width)}pathpetal: {words}\npathpetal: a.end: open: 0 of 9 steps "
+                 "accepted")
         forget("a.end")
     check(min(told.values()) >= 3, f"each is told: {told}")
     # ten corrections that do not settle: too long a step, too narrow cells, and both
@@ -218,18 +229,18 @@ def refused_steps():
     begin = read("dry.channel")
     write("up.csv", "step,cell,amount_um\n10,10,1000000\n")
     go("run", "dry.channel", "-o", "dry.end", "--pour", "up.csv", "--filter-every", 10, status=OPEN,
-       says=r"the filter pass before step 11 of 40 was refused \(number 4\): a cell has less than 1 mm[^\n]*\n"
-       + f"pathpetal: to mend: {LESS}\npathpetal: or {DEEPER}\npathpetal: dry.end: open: 10 of 40 steps accepted")
+       says=rf"^pathpetal: the filter pass before step 11 of 40 was refused \(number 4\){dry(8, 1000)}"
+       f"pathpetal: to mend: {LESS}\npathpetal: or {deeper(8)}\npathpetal: dry.end: open: 10 of 40 steps accepted\n$")
     end_is_true("dry.end", "refused filter pass", False)
     check(counts(read("dry.end")) == (20, 10, 40), "what was accepted is kept")
     go("run", "dry.end", "-o", "dry.end2", "--pour", "up.csv", "--filter-every", 10, status=OPEN,
-        says=f"the filter pass before step 11 of 40 [^\n]*\npathpetal: to mend: {LESS}\npathpetal: or {DEEPER}\n"
+        says=f"the filter pass before step 11 of 40 [^\n]*\npathpetal: to mend: {LESS}\npathpetal: or {deeper(8)}\n"
              "pathpetal: dry.end2: open")
     check(read("dry.end2") == read("dry.end"), "the same refusal when gone on with")
     write("down.csv", "step,cell,amount_um\n17,10,-60000\n")
     go("run", "dry.channel", "-o", "dry.end3", "--pour", "down.csv", "--filter-every", 16, status=OPEN,
-        says=r"step 17 of 40 was refused in its prediction or before it \(number 4, stage 0\): [^\n]*\n"
-        + f"pathpetal: to mend: {LESS}\npathpetal: or {DEEPER}\npathpetal: dry.end3: open")
+        says=rf"step 17 of 40 was refused in its prediction or before it \(number 4, stage 0\){dry(10, 1000)}"
+        f"pathpetal: to mend: {LESS}\npathpetal: or {deeper(10)}\npathpetal: dry.end3: open")
     go("run", "dry.channel", "-o", "dry.end4", "--pour", "down.csv", status=OPEN,
         says="dry.end4: open: 16 of 40 steps accepted")
     check(read("dry.end3") == read("dry.end4") and counts(read("dry.end4")) == (20, 16, 40),
@@ -240,8 +251,8 @@ def refused_steps():
     write("rough.csv", survey([(1000, height) for height in rough], "depth_mm,height_um"))
     go("make", "rough.csv", "-o", "rough.channel", "--width-mm", 200, "--step-ms", 100, "--steps", 2000)
     go("run", "rough.channel", "-o", "rough.end", "--staff", 4, "--record", "rough.csv.record", status=OPEN,
-       says=r"step 587 of 2,000 was refused in its correction 2 \(number 4, stage 2\): [^\n]*\npathpetal: to mend: "
-       r"take a shorter time step: at most 22 ms for cells of 200 mm and a depth of 1,000 mm \(the Courant number is "
+       says=rf"step 587 of 2,000 was refused in its correction 2 \(number 4, stage 2\){dry(20, 200)}pathpetal: to "
+       r"mend: take a shorter time step: at most 22 ms for cells of 200 mm and a depth of 1,000 mm \(the Courant number is "
        r"1.57, and 0.35 is advised\)\npathpetal: rough.end: open: 586 of 2,000 steps accepted")
     end_is_true("rough.end", "refused step", False)
     check(counts(read("rough.end")) == (20, 586, 2000), "586 steps are kept")

@@ -1,7 +1,7 @@
 """Surveys and counts, as pathpetal make takes or refuses them."""
 import os, random, re, struct
 
-from common import COUNTS, REFUSED, ROWS, USAGE, check, forget, go, group, listing, read, write
+from common import COUNTS, REFUSED, ROWS, USAGE, check, forget, go, group, listing, read, tested, write
 from formats import survey
 
 
@@ -48,6 +48,112 @@ def good_surveys():
         check(len(read("edge.channel")) == 24 + 64 * rows, f"{rows} rows")
 
 
+ROW_WORDS = {"depth_mm": "a depth is 1 to 20,000 mm", "height_um": "a height is -20,000,000 to 20,000,000 um",
+    "velocity_um_s": "a velocity is -20,000,000 to 20,000,000 um/s"}
+MENDS = {31: "correct that depth; it may have been typed in another unit than mm",
+    32: "correct that height; it may have been typed in another unit than um",
+    33: "correct that velocity; it may have been typed in another unit than um/s",
+    4: "make that cell deeper, or the water in it higher", 5: "take wider cells, or smooth the bottom"}
+
+
+def steep(depths, j, width):
+    """Whether the row of a cell is not dominant."""
+    h, last = depths[j], len(depths) - 1
+    beside = sum(abs(h * (1409805 * h - 5310000 * depths[k])) for k in (j - 1, j + 1) if 0 <= k <= last)
+    return 10000000 * width * width + (7800390 + 3900195 * (j in (0, last))) * h * h <= beside
+
+
+def fault(rows, width):
+    """The refusal of a survey's rows: its number, the column, the cell from 0, and what is said of it; None if there is
+    none of these."""
+    for k, (number, name, least, most) in enumerate(((31, "depth_mm", 1, 20000), (32, "height_um", -20000000, 20000000),
+        (33, "velocity_um_s", -20000000, 20000000))):
+        for j, row in enumerate(rows):
+            if not least <= row[k] <= most:
+                return number, name, j, f"{ROW_WORDS[name]}, not {row[k]:,}"
+    for j, (depth, height, _) in enumerate(rows):
+        if 1000 * depth + height < 1000:
+            return 4, "height_um", j, \
+                f"less than 1 mm of water is left: a depth of {depth:,} mm, a height of {height:,} um"
+    depths = [row[0] for row in rows]
+    for j, depth in enumerate(depths):
+        if steep(depths, j, width):
+            beside = " and ".join(f"{depths[k]:,}" for k in (j - 1, j + 1) if 0 <= k < len(depths))
+            return 5, "depth_mm", j, "the bottom is too steep for cells this narrow: " \
+                f"{depth:,} mm beside {beside} mm"
+    return None
+
+
+def refused_cells():
+    """Line, column and cell of what the library refuses, in surveys whose lines are not their cells."""
+    group("cells of a survey that are refused")
+    draw = random.Random(tested.seed + 7)
+    names = ["place", "velocity_um_s", "depth_mm", "cell", "height_um"]
+    seen = {}
+
+    def tried(rows, name, width=1000):
+        wrong = fault(rows, width)
+        order = draw.sample(names, len(names))
+        lines, at = [], []
+        for j, row in enumerate([None, *rows]):
+            lines += ["# a remark", "", ",,,,"][:draw.choice((0, 0, 0, 1, 2, 3))]
+            fields = {"place": "", "cell": j, **dict(zip(("depth_mm", "height_um", "velocity_um_s"), row or ()))}
+            lines.append(",".join(str(fields[name]) for name in order) if row else ",".join(order))
+            at.append(len(lines))
+        write("bad.csv", "\n".join(lines) + "\n")
+        forget("bad.channel")
+        before = listing()
+        if not wrong:
+            go("make", "bad.csv", "-o", "bad.channel", "--width-mm", width, *COUNTS[2:], name=name)
+            return forget("bad.channel")
+        number, column, j, words = wrong
+        seen.setdefault(number, set()).add("first" if j == 0 else "last" if j == len(rows) - 1 else "middle")
+        says = f"pathpetal: bad.csv: line {at[j + 1]}, column {order.index(column) + 1} ({column}): {words} " \
+            f"(refused, number {number}, in cell {j + 1})\npathpetal: to mend: {MENDS[number]}\n" \
+            "pathpetal: nothing is written\n"
+        go("make", "bad.csv", "-o", "bad.channel", "--width-mm", width, *COUNTS[2:], status=REFUSED, name=name,
+            says=f"^{re.escape(says)}$")
+        return check(listing() == before, f"{name}: something was written or changed")
+
+    plain = [(900 + j % 3, 0, 0) for j in range(60)]
+
+    def with_cells(changes, rows=plain):
+        rows = list(rows)
+        for j, row in changes.items():
+            rows[j] = row
+        return rows
+
+    tried(plain, "no fault")
+    tried(with_cells({38: (25000, 0, 0)}), "a bad depth in the 39th cell")
+    for j in (0, 1, 38, 58, 59):
+        for row in ((0, 0, 0), (-1, 0, 0), (20001, 0, 0), (2147483647, 0, 0), (-2147483648, 0, 0), (900, 20000001, 0),
+            (900, -20000001, 0), (900, 0, 20000001), (900, 0, -20000001), (900, 2147483647, 0), (900, 0, -2147483648),
+            (900, -899001, 0), (900, -899000, 0), (900, 20000000, 0), (900, 0, 9000)):
+            tried(with_cells({j: row}), f"{row} in cell {j + 1}")
+        tried(with_cells({j: (2000, 0, 0)}), f"a step of the bottom at cell {j + 1}")
+        for deep in (1941, 1942, 4352, 4353):
+            tried(with_cells({j: (1000, 0, 0)}, [(deep, 0, 0)] * 60), f"1,000 mm beside {deep} mm at cell {j + 1}")
+    tried(with_cells({2: (900, 20000001, 0), 8: (0, 0, 0)}), "a depth before a height in a lower cell")
+    tried(with_cells({2: (900, 0, 20000001), 8: (900, -20000001, 0)}), "a height before a velocity in a lower cell")
+    tried(with_cells({0: (900, -899001, 0), 59: (900, 0, 20000001)}), "a velocity before a dry cell")
+    tried(with_cells({4: (1000, 0, 0), 40: (1942, -1941001, 0)}, [(1942, 0, 0)] * 60), "a dry cell before a steep one")
+    tried(with_cells({17: (0, 0, 0), 5: (20001, 0, 0), 41: (0, 0, 0)}), "the lowest of three depths")
+    tried(with_cells({j: (0, 20000001, 20000001) for j in range(60)}), "a fault everywhere")
+    for k in range(60):
+        rows = [(draw.randint(800, 1000), draw.randint(-9000, 9000), draw.randint(-900, 900))
+            for _ in range(draw.choice((8, 9, 30, 256)))]
+        for _ in range(draw.randint(1, 4)):
+            j = draw.choice((0, len(rows) - 1, draw.randrange(len(rows))))
+            value = draw.choice((0, -1, 1, 20000, 20001, 20000000, 20000001, -20000000, -20000001, -899001))
+            column = draw.randrange(3)
+            rows[j] = tuple(value if i == column else old for i, old in enumerate(rows[j]))
+        if fault(rows, 1000):
+            tried(rows, f"drawn faults {k}")
+    for number, places in sorted(seen.items()):
+        check(len(places) == 3, f"refusal {number} in the first, a middle and the last cell: {places}")
+    check(sorted(seen) == [4, 5, 31, 32, 33], f"each refusal of a cell: {sorted(seen)}")
+
+
 def bad_surveys():
     group("surveys and counts that are refused")
     lines = survey(ROWS).splitlines()
@@ -69,13 +175,14 @@ def bad_surveys():
         "a sign alone": (with_line(3, "900,-,0"), "line 3, column 2 .*'-' is not a whole number"),
         "two signs": (with_line(3, "900,--5,0"), "line 3, column 2 .*'--5' is not a whole number"),
         "an empty depth": (with_line(31, ",5,5"), r"line 31, column 1 \(depth_mm\): is empty"),
-        "depth 0": (with_line(3, "0,0,0"), "line 3, column 1 .*0 is outside 1 to 20,000"),
-        "depth 20,001": (with_line(3, "20001,0,0"), "line 3, column 1 .*20001 is outside"),
-        "height far too large": (with_line(3, "900,99999999999999999999999,0"),
-            "line 3, column 2 .*outside -20,000,000 to 20,000,000"),
-        "height too low": (with_line(3, "900,-20000001,0"), "line 3, column 2 .*outside"),
-        "velocity of 2^32 + 5": (with_line(3, "900,0,4294967301"), "line 3, column 3 .*outside"),
-        "velocity of 2^64 + 5": (with_line(3, "900,0,18446744073709551621"), "line 3, column 3 .*outside"),
+        "a depth of 2^31": (with_line(3, "2147483648,0,0"),
+            r"line 3, column 1 \(depth_mm\): a depth is 1 to 20,000 mm, not 2147483648\n$"),
+        "a height far too large": (with_line(3, "900,99999999999999999999999,0"),
+            r"line 3, column 2 \(height_um\): a height is -20,000,000 to 20,000,000 um, not 9{23}\n$"),
+        "a velocity of 2^32 + 5": (with_line(3, "900,0,4294967301"),
+            r"line 3, column 3 \(velocity_um_s\): a velocity is -20,000,000 to 20,000,000 um/s, not 4294967301\n$"),
+        "a velocity of -2^31 - 1": (with_line(3, "900,0,-2147483649"), "line 3, column 3 .*um/s, not -2147483649\n$"),
+        "a velocity of 2^64 + 5": (with_line(3, "900,0,18446744073709551621"), "line 3, column 3 .*, not 184467"),
         "too few fields": (with_line(12, "900,0"), "line 12: has 2 fields where the column names are 3"),
         "too many fields": (with_line(12, "900,0,0,0"), "line 12: has 4 fields"),
         "257 rows": (survey([(1000,)] * 257, "depth_mm"), "line 258: is row 257; a channel has 8 to 256 cells"),
@@ -99,12 +206,6 @@ def bad_surveys():
             "cell,depth_mm,height_um,velocity_um_s"), "line 7, column 1 .*is 7 where cell 6 must follow"),
         "bytes at random": (random.Random(5).randbytes(3000), "pathpetal: bad.csv"),
         "a long word": (with_line(3, "z" * 100000 + ",0,0"), r"'z+\.\.\.' is not a whole number"),
-        "a dry cell": (with_line(6, "900,-899001,0"),
-            "refused, number 4: .*less than 1 mm.*line 6, cell 5: depth 900 mm with height -899,001 um.*to mend: .*"
-            "nothing is written"),
-        "a steep bottom": (survey([(1942,)] * 4 + [(1000,)] + [(1942,)] * 4, "depth_mm"),
-            "refused, number 5: .*too steep.*line 6, cell 5: the first that is too steep.*to mend: take wider cells.*"
-            "nothing is written"),
         "water too fast": (survey([(20000, 0, 20000000 * (-1) ** j) for j in range(8)]),
             "refused, number 7: .*faster than 20 m/s.*to mend"),
     }

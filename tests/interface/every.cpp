@@ -14,7 +14,8 @@ int main()
                 pathpetal_filter(file, sizeof file) == 0 &&
                 pathpetal_number(pathpetal_run(file, sizeof file, 1)) == PATHPETAL_MORE && !pathpetal_complete(file) &&
                 pathpetal_count(pathpetal_run(file, sizeof file, 100)) == 1 && pathpetal_complete(file) &&
-                pathpetal_stage(pathpetal_run(file, sizeof file, 1)) == 0 && pathpetal_cells(file) == 8 &&
+                pathpetal_stage(pathpetal_run(file, sizeof file, 1)) == 0 &&
+                pathpetal_place(pathpetal_run(file, sizeof file, 1)) == 0 && pathpetal_cells(file) == 8 &&
                 pathpetal_width_mm(file) == 1000 && pathpetal_step_ms(file) == 20 && pathpetal_accepted(file) == 3 &&
                 pathpetal_wanted(file) == 3 && pathpetal_depth_mm(file, 7) == 200 &&
                 pathpetal_height_um(file, 7) == 0 && pathpetal_velocity_um_s(file, 7) == 0;

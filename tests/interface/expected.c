@@ -14,7 +14,7 @@ struct channel {
 
 static uint64_t answer(struct second_answer a)
 {
-    return a.count * 65536 + a.number * 256 + a.stage;
+    return a.count * 33554432 + a.place * 65536 + a.number * 256 + a.stage;
 }
 
 static uint64_t refused(unsigned number)
@@ -51,13 +51,13 @@ static void lend(struct channel *c, size_t N)
 
 /* The reader's checks of the bytes; the row beside the file, if there is one, has its place among the lent rows: if
    its length is wrong, the second program's reader is lent rows of a wrong length. */
-static unsigned reader(const uint8_t *file, size_t len, bool beside, size_t beside_len, struct channel *c)
+static struct second_answer reader(const uint8_t *file, size_t len, bool beside, size_t beside_len, struct channel *c)
 {
     uint64_t N = len >= HEAD ? count_at(file + 4) : 0;
     if (N > CELLS)
         N = 0;
     lend(c, beside && beside_len != 4 * N ? 0 : (size_t)N);
-    return second_read(file, len, &c->lends).number;
+    return second_read(file, len, &c->lends);
 }
 
 /* The channel of a file whose length and offsets are right, whatever its counts and values are. */
@@ -81,7 +81,7 @@ static void take_all(const uint8_t *file, struct channel *c)
 uint64_t expected_check(const uint8_t *file, size_t file_len)
 {
     struct channel c;
-    return refused(reader(file, file_len, false, 0, &c));
+    return answer(reader(file, file_len, false, 0, &c));
 }
 
 /* What the reader finds before the counts and the values comes first. From there on the second program's step has the
@@ -90,12 +90,12 @@ uint64_t expected_step(uint8_t *file, size_t file_len, const uint8_t *poured, si
 {
     struct channel c;
     int64_t s[CELLS];
-    unsigned number = reader(file, file_len, true, poured_len, &c);
-    if (number == 1 || number >= 12)
-        return refused(number);
+    struct second_answer a = reader(file, file_len, true, poured_len, &c);
+    if (a.number == 1 || (a.number >= 12 && a.number <= 14))
+        return answer(a);
     take_all(file, &c);
     take(s, poured_len / 4, poured, 4);
-    struct second_answer a = second_step(&c.lends, (struct second_read_row){s, poured_len / 4});
+    a = second_step(&c.lends, (struct second_read_row){s, poured_len / 4});
     if (a.number == 0)
         second_write(&c.lends, file, file_len);
     return answer(a);
@@ -104,10 +104,10 @@ uint64_t expected_step(uint8_t *file, size_t file_len, const uint8_t *poured, si
 uint64_t expected_filter(uint8_t *file, size_t file_len)
 {
     struct channel c;
-    unsigned number = reader(file, file_len, false, 0, &c);
-    if (number)
-        return refused(number);
-    struct second_answer a = second_filter(&c.lends);
+    struct second_answer a = reader(file, file_len, false, 0, &c);
+    if (a.number)
+        return answer(a);
+    a = second_filter(&c.lends);
     if (a.number == 0)
         second_write(&c.lends, file, file_len);
     return answer(a);
@@ -117,10 +117,9 @@ uint64_t expected_run(uint8_t *file, size_t file_len, uint64_t most)
 {
     static const int64_t nothing[CELLS];
     struct channel c;
-    unsigned number = reader(file, file_len, false, 0, &c);
-    if (number)
-        return refused(number);
-    struct second_answer a = {0, 0, 0};
+    struct second_answer a = reader(file, file_len, false, 0, &c);
+    if (a.number)
+        return answer(a);
     uint64_t count = 0;
     while (c.lends.accepted < c.lends.wanted && count < most && a.number == 0) {
         a = second_step(&c.lends, (struct second_read_row){nothing, (size_t)c.lends.N});
@@ -154,7 +153,7 @@ uint64_t expected_make(uint64_t cells, uint64_t width_mm, uint64_t step_ms, uint
     take(c.e, N, heights, 4);
     take(c.u, N, velocities, 4);
     struct second_answer a = second_make(&c.lends);
-    bool input = a.number >= 1 && a.number <= 5;
+    bool input = (a.number >= 1 && a.number <= 5) || a.number >= 31;
     if (!input && file_len != 24 + 64 * N)
         return refused(15);
     if (a.number == 0)

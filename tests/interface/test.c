@@ -140,31 +140,45 @@ static bool canaries_live(int i, const uint8_t *at, size_t len)
 
 /* ---- counting ---- */
 
-enum { NUMBERS = 17, PLACES = 12 };
+enum { NUMBERS = 38, TURNS = 12 };
 static long passed, failed, damaged_files, settled[11];
-static long refused_at[KINDS][NUMBERS][PLACES]; /* place 0: before the stages; 1 + k: stage k */
+static long refused_at[KINDS][NUMBERS][TURNS]; /* turn 0: before the stages; 1 + k: stage k */
+
+/* Where in its row or level the cell or face at fault is: how often for each refusal, before the stages and at them. */
+enum where { AT_FIRST, BETWEEN, AT_LAST, WHERES };
+static long placed[KINDS][NUMBERS][2][WHERES];
+static const char *const where_names[WHERES] = {"the first place", "a place between", "the last place"};
 
 /* What else must occur. */
 enum event { ROW_BESIDE, AMOUNT_BESIDE, COMPLETE_BEFORE, COMPLETED, MORE_AT_ONCE, MORE_LATER, REFUSED_FIRST,
              REFUSED_LATER, MAKE_CELLS, MAKE_ROW, EVENTS };
 static long events[EVENTS];
 static const char *const event_names[EVENTS] = {
-    "step refused 1 for its poured row alone",   "step refused 3 for its poured row alone",
+    "step refused 1 for its poured row alone",   "step refused 37 for its poured row alone",
     "run of a channel complete before",          "run completed a channel",
     "run stopped (16) with no step taken",       "run stopped (16) after some steps",
     "run refused at a stage of its first step",  "run refused at a stage of a later step",
     "make refused 1 for the number of cells",    "make refused 1 for a row alone"};
 
+/* How many cells the call's channel has, or faces where those are looked at. */
+static unsigned last_place(enum kind kind, const struct call *c, unsigned number)
+{
+    unsigned cells = kind == MAKE ? (unsigned)c->cells : pathpetal_cells(c->string[BYTES].at);
+    return number == PATHPETAL_BAD_FLUX ? cells - 1 : cells;
+}
+
 static void count(enum kind kind, const struct call *c, uint64_t answer)
 {
-    unsigned number = pathpetal_number(answer), stage = pathpetal_stage(answer), place = 0;
+    unsigned number = pathpetal_number(answer), stage = pathpetal_stage(answer), place = pathpetal_place(answer);
     uint64_t steps = pathpetal_count(answer);
-    bool taken = kind != CHECK && kind != MAKE && (number == 1 || number == 3 || number == 4) &&
+    bool taken = kind != CHECK && kind != MAKE && (number == 1 || number == 37 || number == 4) &&
                  expected_check(c->string[BYTES].at, c->string[BYTES].len) == 0;
     bool at_stage = (number == 4 && (taken || stage || steps)) || (number >= 6 && number <= 10);
-    if (at_stage)
-        place = 1 + stage;
-    refused_at[kind][number][place]++;
+    refused_at[kind][number][at_stage ? 1 + stage : 0]++;
+    if (place > 0) {
+        enum where where = place == 1 ? AT_FIRST : place == last_place(kind, c, number) ? AT_LAST : BETWEEN;
+        placed[kind][number][at_stage][where]++;
+    }
     if (kind == STEP && number == 0)
         settled[steps]++;
     if (kind == STEP && taken && number != 4)
@@ -189,9 +203,9 @@ static void expect(bool holds, const char *what)
 
 static void tell(enum kind kind, const struct call *c, uint64_t a, uint64_t b, const char *what, size_t at)
 {
-    printf("%s differs in %s at %zu: library %u %u %" PRIu64 ", second %u %u %" PRIu64 "; file of %zu bytes:",
-           names[kind], what, at, pathpetal_number(a), pathpetal_stage(a), pathpetal_count(a), pathpetal_number(b),
-           pathpetal_stage(b), pathpetal_count(b), c->string[BYTES].len);
+    printf("%s differs in %s at %zu: library %u %u %u %" PRIu64 ", second %u %u %u %" PRIu64 "; file of %zu bytes:",
+           names[kind], what, at, pathpetal_number(a), pathpetal_stage(a), pathpetal_place(a), pathpetal_count(a),
+           pathpetal_number(b), pathpetal_stage(b), pathpetal_place(b), pathpetal_count(b), c->string[BYTES].len);
     if (kind == MAKE)
         printf(" cells %" PRIu64 " width %" PRIu64 " step %" PRIu64 " wanted %" PRIu64 ", rows of %zu %zu %zu bytes\n",
                c->cells, c->width, c->step, c->wanted, c->string[DEPTHS].len, c->string[HEIGHTS].len,
@@ -572,9 +586,11 @@ static void damage(struct call *c, size_t n, enum fault fault)
         put(c->string[POURED].at + 4 * j, (uint64_t)PICK(1000001, -1000001, INT32_MAX, INT32_MIN), 4);
         break;
     case VALUE:
-        row = (int)(draw() % ROWS);
-        j = draw() % row_len(row, n);
-        set_entry(c, n, row, j, one_in(2) ? row_most[row] + 1 : row_least[row] - 1);
+        for (uint64_t more = draw() % 4; more < 4; more++) {
+            row = (int)(draw() % ROWS);
+            j = draw() % row_len(row, n);
+            set_entry(c, n, row, j, one_in(2) ? row_most[row] + 1 : row_least[row] - 1);
+        }
         break;
     case COUNT:
         switch (draw() % 4) {
@@ -624,6 +640,134 @@ static void faults(const struct call *from)
         }
 }
 
+/* ---- where a fault is: the lowest place of the first row, and of the newest level, that has one ---- */
+
+static bool is_at(uint64_t answer, unsigned number, unsigned stage, unsigned place, uint64_t steps)
+{
+    return pathpetal_number(answer) == number && pathpetal_stage(answer) == stage &&
+           pathpetal_place(answer) == place && pathpetal_count(answer) == steps;
+}
+
+static unsigned row_number(int row) { return PATHPETAL_BAD_DEPTH + (unsigned)row; }
+
+/* How many levels a row has, and how many entries each of them. */
+static size_t row_levels(int row) { return row < ROW_Q ? 1 : 3; }
+static size_t level_len(int row, size_t n) { return row_len(row, n) / row_levels(row); }
+
+/* The place to try after another: each of them, or five of a long row, the first and the last among them. */
+static size_t next_place(size_t j, size_t len)
+{
+    return len <= 24 || j == 0 || j + 2 >= len ? j + 1 : j == 1 ? len / 2 : len - 2;
+}
+
+/* An entry that is just out of its range. */
+static void set_wrong(struct call *c, size_t n, int row, size_t j)
+{
+    set_entry(c, n, row, j, one_in(2) ? row_most[row] + 1 : row_least[row] - 1);
+}
+
+/* A file of which the refusal and its place are known, to every call. */
+static void refused_there(struct call *c, unsigned number, size_t place)
+{
+    static struct call again;
+    damaged_files++;
+    set_file(&again, c);
+    for (enum kind kind = CHECK; kind <= RUN; kind++) {
+        again.most = (uint64_t)PICK(0, 1, 2);
+        expect(is_at(compare(kind, &again), number, 0, (unsigned)place, 0), "a fault is told by its row and place");
+    }
+}
+
+/* One fault at each place of each row and level. Others change nothing: behind it in its level, and at lower places in
+   older levels and in later rows. */
+static void places(const struct call *from)
+{
+    static struct call c;
+    size_t n = word(from, CELLS);
+    for (int row = 0; row < ROWS; row++)
+        for (size_t level = 0; level < row_levels(row); level++)
+            for (size_t len = level_len(row, n), j = 0; j < len; j = next_place(j, len)) {
+                size_t at = level * len + j;
+                set_file(&c, from);
+                set_wrong(&c, n, row, at);
+                refused_there(&c, row_number(row), j + 1);
+                if (j + 1 < len)
+                    set_wrong(&c, n, row, (size_t)between((int64_t)at + 1, (int64_t)(at - j + len) - 1));
+                for (size_t older = level + 1; older < row_levels(row); older++)
+                    set_wrong(&c, n, row, older * len + (j > 0 ? draw() % j : 0));
+                refused_there(&c, row_number(row), j + 1);
+                for (int later = row + 1; later < ROWS; later++)
+                    set_wrong(&c, n, later, j > 0 ? draw() % j : 0);
+                put(c.string[POURED].at, 1000001, 4);
+                refused_there(&c, row_number(row), j + 1);
+            }
+}
+
+/* Cells with less than 1 mm of water, and then a bottom that is too steep in a lower cell too. */
+static void dry_and_steep_places(const struct call *from)
+{
+    static struct call c;
+    size_t n = word(from, CELLS);
+    for (size_t j = 0; j < n; j = next_place(j, n)) {
+        set_file(&c, from);
+        set_word(&c, WIDTH, 1000);
+        for (size_t i = 0; i < n; i++) {
+            set_entry(&c, n, ROW_h, i, i == j ? 1000 : 4353);
+            set_entry(&c, n, ROW_e, i, 0);
+        }
+        memset(c.string[POURED].at, 0, 4 * n);
+        refused_there(&c, PATHPETAL_DOMINANCE, j + 1);
+        if (j + 2 < n)
+            set_entry(&c, n, ROW_h, n - 1, 1000);
+        refused_there(&c, PATHPETAL_DOMINANCE, j + 1);
+        set_entry(&c, n, ROW_e, n - 1, 999 - 1000 * depth(&c, n, n - 1));
+        refused_there(&c, PATHPETAL_DEPTH, n);
+        set_entry(&c, n, ROW_e, j, 999 - 1000 * depth(&c, n, j));
+        refused_there(&c, PATHPETAL_DEPTH, j + 1);
+    }
+}
+
+/* Amounts that are out of their range, and a dry cell that comes after them. */
+static void poured_places(const struct call *from)
+{
+    static struct call c;
+    size_t n = word(from, CELLS);
+    for (size_t j = 0; j < n; j = next_place(j, n))
+        for (int more = 0; more < 3; more++) {
+            set_file(&c, from);
+            memset(c.string[POURED].at, 0, 4 * n);
+            put(c.string[POURED].at + 4 * j, (uint64_t)PICK(1000001, -1000001, INT32_MAX, INT32_MIN), 4);
+            for (size_t i = j + 1; i < n && more > 0; i += 2)
+                put(c.string[POURED].at + 4 * i, 1000001, 4);
+            if (more > 1)
+                set_entry(&c, n, ROW_e, 0, 999 - 1000 * depth(&c, n, 0));
+            damaged_files++;
+            expect(is_at(compare(STEP, &c), PATHPETAL_BAD_POURED, 0, (unsigned)j + 1, 0),
+                   "a poured amount is told by its place");
+        }
+}
+
+/* make's rows in the same way. */
+static void made_places(size_t n)
+{
+    static struct call c;
+    static struct scene s;
+    calm(&s, n);
+    for (int row = ROW_h; row <= ROW_u; row++)
+        for (size_t j = 0; j < n; j = next_place(j, n)) {
+            set_scene(&c, &s);
+            for (int later = row; later <= ROW_u; later++) {
+                size_t at = later > row && j > 0 ? draw() % j : j;
+                put(c.string[DEPTHS + later].at + 4 * at,
+                    (uint64_t)(one_in(2) ? row_most[later] + 1 : row_least[later] - 1), 4);
+            }
+            if (j + 1 < n)
+                put(c.string[DEPTHS + row].at + 4 * (n - 1), (uint64_t)row_least[row] - 1, 4);
+            expect(is_at(compare(MAKE, &c), row_number(row), 0, (unsigned)j + 1, 0),
+                   "a fault in make's rows is told by its row and place");
+        }
+}
+
 static void many_damaged_files(void)
 {
     static struct call base;
@@ -634,6 +778,10 @@ static void many_damaged_files(void)
         lengths(&base);
         values(&base);
         dry_cells(&base);
+        places(&base);
+        dry_and_steep_places(&base);
+        poured_places(&base);
+        made_places(sizes[i]);
         if (sizes[i] < 256)
             steep_bottoms(&base);
     }
@@ -809,9 +957,45 @@ static int64_t heights(const struct call *c)
     return sum;
 }
 
+/* An answer without a place. */
 static bool is(uint64_t answer, unsigned number, unsigned stage, uint64_t steps)
 {
-    return pathpetal_number(answer) == number && pathpetal_stage(answer) == stage && pathpetal_count(answer) == steps;
+    return is_at(answer, number, stage, 0, steps);
+}
+
+/* The header's four readers give back what was packed. */
+static void readers(void)
+{
+    static const unsigned numbers[] = {0, 4, 16, 31, 37, 255}, stages[] = {0, 1, 10, 255}, at[] = {0, 1, 255, 256, 511};
+    static const uint64_t counts[] = {0, 1, 10, 999999, 1000000};
+    for (size_t i = 0; i < sizeof numbers / sizeof *numbers; i++)
+        for (size_t j = 0; j < sizeof stages / sizeof *stages; j++)
+            for (size_t k = 0; k < sizeof at / sizeof *at; k++)
+                for (size_t l = 0; l < sizeof counts / sizeof *counts; l++)
+                    expect(is_at(counts[l] * 33554432 + at[k] * 65536 + numbers[i] * 256 + stages[j], numbers[i],
+                                 stages[j], at[k], counts[l]), "an answer is read back");
+}
+
+/* Several faults at once, and a cell that falls dry in a step and in a run. */
+static void known_places(void)
+{
+    static struct call c, start;
+    even(&start, 8, 2, 0, 10);
+    start.step = 1;
+    expect(is(compare(MAKE, &start), 0, 0, 0), "8 cells with 2 mm of water");
+    set_file(&c, &start);
+    set_entry(&c, 8, ROW_Q, 6, 1000000000000001), set_entry(&c, 8, ROW_Q, 7 + 1, 1000000000000001);
+    expect(is_at(compare(CHECK, &c), 35, 0, 7, 0), "face 7 of the newest level before face 2 of the middle one");
+    set_file(&c, &start);
+    set_entry(&c, 8, ROW_h, 5, 0), set_entry(&c, 8, ROW_e, 1, 20000001);
+    expect(is_at(compare(CHECK, &c), 31, 0, 6, 0), "the depth of cell 6 before the height of cell 2");
+    set_file(&c, &start);
+    for (size_t level = 0; level < 3; level++)
+        set_entry(&c, 8, ROW_Q, 7 * level + 2, 1000000000), set_entry(&c, 8, ROW_Q, 7 * level + 5, 1000000000);
+    set_entry(&c, 8, ROW_e, 2, -1000), set_entry(&c, 8, ROW_e, 5, -1000);
+    expect(is_at(compare(STEP, &c), 4, 0, 3, 0), "cell 3 falls dry in a step");
+    c.most = 10;
+    expect(is_at(compare(RUN, &c), 4, 0, 3, 0), "cell 3 falls dry in a run");
 }
 
 static void known(void)
@@ -846,7 +1030,8 @@ static void known(void)
     for (int32_t d = 1941; d <= 1942; d++) {
         even(&c, 9, d, 0, 10);
         put(c.string[DEPTHS].at + 16, 1000, 4);
-        expect(is(compare(MAKE, &c), d == 1941 ? 0 : PATHPETAL_DOMINANCE, 0, 0), "marked case 8");
+        uint64_t answer = compare(MAKE, &c);
+        expect(d == 1941 ? is(answer, 0, 0, 0) : is_at(answer, PATHPETAL_DOMINANCE, 0, 5, 0), "marked case 8");
     }
     even(&c, 16, 1000, 0, 10);
     put(c.string[HEIGHTS].at + 28, 256, 4);
@@ -910,25 +1095,50 @@ static void long_strings(void)
 
 /* ---- what must have occurred ---- */
 
-static bool due(enum kind kind, int number, int place)
+static bool due(enum kind kind, int number, int turn)
 {
     bool stepped = kind == STEP || kind == RUN;
-    if (place == 0)
+    if (turn == 0)
         switch (number) {
-        case 1: case 2: case 3: case 4: case 5: case 0: return true;
+        case 0: case 1: case 2: case 4: case 5: case 31: case 32: case 33: return true;
         case 11: return kind == STEP || kind == FILTER;
-        case 12: case 13: case 14: return kind != MAKE;
+        case 12: case 13: case 14: case 34: case 35: case 36: return kind != MAKE;
         case 15: return kind == MAKE;
         case 16: return kind == RUN;
+        case 37: return kind == STEP;
         default: return false;
         }
     switch (number) {
-    case 4: case 8: return stepped || (kind == FILTER && place == 1);
-    case 7: return stepped || (kind != CHECK && place == 1);
-    case 9: return (stepped && place <= 1 + 3) || (kind != CHECK && place == 1);
-    case 10: return stepped && place == 1 + 10;
+    case 4: case 8: return stepped || (kind == FILTER && turn == 1);
+    case 7: return stepped || (kind != CHECK && turn == 1);
+    case 9: return (stepped && turn <= 1 + 3) || (kind != CHECK && turn == 1);
+    case 10: return stepped && turn == 1 + 10;
     default: return false;
     }
+}
+
+static bool has_place(int number) { return number == 4 || number == 5 || number >= 31; }
+
+/* Of each refusal that has a place: how often it was the first, one between and the last. */
+static void places_table(void)
+{
+    char what[80];
+    puts("places, by call and number: the first, between, the last before the stages | at a stage");
+    for (enum kind kind = CHECK; kind < KINDS; kind++)
+        for (int number = 0; number < NUMBERS; number++) {
+            long (*of)[WHERES] = placed[kind][number];
+            bool at_stage = due(kind, number, 1);
+            if (!has_place(number) || !due(kind, number, 0))
+                continue;
+            printf("%-6s %2d %7ld %ld %ld", names[kind], number, of[0][AT_FIRST], of[0][BETWEEN], of[0][AT_LAST]);
+            if (at_stage)
+                printf(" | %ld %ld %ld", of[1][AT_FIRST], of[1][BETWEEN], of[1][AT_LAST]);
+            puts("");
+            for (int i = 0; i < WHERES; i++) {
+                snprintf(what, sizeof what, "%s answered %d with %s", names[kind], number, where_names[i]);
+                expect(of[0][i] > 0 && (!at_stage || of[1][i] > 0), what);
+            }
+        }
 }
 
 static void table(void)
@@ -938,12 +1148,12 @@ static void table(void)
     for (enum kind kind = CHECK; kind < KINDS; kind++)
         for (int number = 0; number < NUMBERS; number++) {
             long sum = 0;
-            for (int place = 0; place < PLACES; place++) {
-                sum += refused_at[kind][number][place];
-                if (due(kind, number, place)) {
+            for (int turn = 0; turn < TURNS; turn++) {
+                sum += refused_at[kind][number][turn];
+                if (due(kind, number, turn)) {
                     snprintf(what, sizeof what, "%s answered %d %s %d", names[kind], number,
-                             place ? "at stage" : "before its stages", place ? place - 1 : 0);
-                    expect(refused_at[kind][number][place] > 0, what);
+                             turn ? "at stage" : "before its stages", turn ? turn - 1 : 0);
+                    expect(refused_at[kind][number][turn] > 0, what);
                 }
             }
             if (sum == 0)
@@ -951,8 +1161,8 @@ static void table(void)
             printf("%-6s %2d %7ld", names[kind], number, refused_at[kind][number][0]);
             if (sum > refused_at[kind][number][0]) {
                 fputs(" |", stdout);
-                for (int place = 1; place < PLACES; place++)
-                    printf(" %ld", refused_at[kind][number][place]);
+                for (int turn = 1; turn < TURNS; turn++)
+                    printf(" %ld", refused_at[kind][number][turn]);
             }
             puts("");
         }
@@ -962,6 +1172,7 @@ static void table(void)
         expect(settled[k] > 0, "steps settled at every correction");
     }
     puts("");
+    places_table();
     for (int i = 0; i < EVENTS; i++) {
         printf("%s: %ld\n", event_names[i], events[i]);
         expect(events[i] > 0, event_names[i]);
@@ -979,7 +1190,9 @@ int main(void)
     arenas();
     rare_channels();
     seed(20260101);
+    readers();
     known();
+    known_places();
     nothing_lent();
     long_strings();
     many_damaged_files();

@@ -1,7 +1,7 @@
 /* Mixed calls on many channels through the C interface, written down for tests/water_sum/check.
    usage: water_sum_drive FOLDER
    FOLDER/files holds the channel file after every call, one behind another; FOLDER/log a line for each:
-     channel call number stage count state length most row amounts..
+     channel call number stage place count state length most row amounts..
    channel  its name; 3.2 is the second damaged copy of channel 3
    call     make, step, filter, run or check; or bytes: no call, the bytes that the calls on this channel start from
    state    open or done, or - if the bytes are no channel file
@@ -50,8 +50,8 @@ static void note(const struct channel *c, const char *call, uint64_t answer)
     if (pathpetal_number(pathpetal_check(c->file, c->len)) == 0)
         word = pathpetal_complete(c->file) ? "done" : "open";
     fprintf(journal, c->copy ? "%d.%d" : "%d", c->number, c->copy);
-    fprintf(journal, " %s %u %u %" PRIu64 " %s %zu", call, pathpetal_number(answer), pathpetal_stage(answer),
-            pathpetal_count(answer), word, c->len);
+    fprintf(journal, " %s %u %u %u %" PRIu64 " %s %zu", call, pathpetal_number(answer), pathpetal_stage(answer),
+            pathpetal_place(answer), pathpetal_count(answer), word, c->len);
     fwrite(c->file, 1, c->len, files);
 }
 

@@ -10,7 +10,7 @@ use Rattle.whole.specs.Row.{length-tab}
 use Rattle.rule.specs.Rows.{Row}
 use Rattle.rule.specs.Ranges.{mostHeight, mostVelocity, mostFlux, mostAcceleration, leastCells, mostCells, leastWidth}
 use Rattle.rule.specs.Channel.{Channel, channel}
-use Rattle.rule.specs.Refusals.{Outcome, done, number}
+use Rattle.rule.specs.Refusals.{Outcome, done}
 use Rattle.rule.specs.Step as rule
 use Rattle.rule.specs.Calls.{Called}
 use Rattle.rows.specs.Firsts.{firsts}
@@ -23,6 +23,8 @@ use Rattle.stage.specs.Stages.{Sound, tried-sound}
 use Rattle.checks.specs.Numbers.{Met}
 use Rattle.stage.specs.Met.{tried-met}
 use Rattle.stage.specs.Kept.{rowsOf, Kept, Returned, returned, why-refused, within-array}
+use Rattle.places.specs.Faults.{plain}
+use Rattle.answers.specs.Stages as answers
 use Rattle.answers.specs.Stages.{stageOf, stage-met, stage-last}
 use Rattle.advance.specs.declared.Advanced.{Advanced}
 use Rattle.advance.specs.Steps.{refusal, stepped, stages, stages-refused, stages-done, correction-refused, correction-settled, correction-not, corrections-end}
@@ -31,8 +33,8 @@ use Rattle.advance.specs.Steps.{refusal, stepped, stages, stages-refused
 abbrev pub advanced : Channel → Advanced → Called Channel
 advanced c r =
     record {
-      answer = record { number = r .number; stage = r .stage; count = r .count };
-      left = cond (eqb (r .number) 0) (rule.accept c (rowsOf (c .N) (r .trial))) c;
+      answer = r .answer;
+      left = cond (eqb (r .answer .number) 0) (rule.accept c (rowsOf (c .N) (r .trial))) c;
     }
 
 -- what a correction asks: of the rows that are stored what the prediction asked, and of the trial before its Q and F
@@ -92,7 +94,7 @@ module _ (n x t : ℕ) (h e v q f s : Row) where
   -- r is how the stages end, whatever the counts and the stored u
   pub record Advances (r : Advanced) : Type 0 where
     pub at : (a w : ℕ) (u : Row) → advanced (on a w u) r ≡ stepped (on a w u) (stages (on a w u) s)
-    pub kept : r .number ≡ 0 → Kept n (r .trial)
+    pub kept : r .answer .number ≡ 0 → Kept n (r .trial)
 
   -- with correction k next, after the trial old
   pub record Going (k : ℕ) (old : Trial) : Type 0 where
@@ -122,22 +124,22 @@ module _ (n x t : ℕ) (h e v q f s : Row) where
 
     -- the prediction
     module _ (r : Trial) (p : r ≡ trialOf n (staged false q f)) where
-      pub predicted-refused : (r .number ≡ 0 → ⊥) → Advances (record { number = r .number; stage = stageOf (r .number) 0; count = 0; trial = r })
+      pub predicted-refused : (r .fault .number ≡ 0 → ⊥) → Advances (record { answer = answers.refusal (r .fault) (stageOf (r .fault .number) 0); trial = r })
       predicted-refused z =
           let o = staged false q f in
           let y = why-refused n r o (staged-met false q f) p z in
           record {
             at =
                 λ a w u.
-                rw (ne-eqb (r .number) 0 z) (λ i. refusal (on a w u) (y .numbered i) (stage-met (r .number) 0 (y .such .0) (y .such .1) i))
+                rw (ne-eqb (r .fault .number) 0 z) (λ i. refusal (on a w u) (y .tells i) (stage-met (r .fault .number) 0 (y .such .0) (y .such .1) i))
                 ∙ stages-refused (on a w u) s (y .why) (predicts a w u ∙ y .is);
             kept = λ d. absurd (z d);
           }
 
-      pub predicted : r .number ≡ 0 → Going 1 r
+      pub predicted : r .fault .number ≡ 0 → Going 1 r
       predicted z =
           let o = staged false q f in
-          let y : Returned n r o = rw p (returned n most o (staged-sound false q f) (sym (ap (λ i. i .number) p) ∙ z)) in
+          let y : Returned n r o = rw p (returned n most o (staged-sound false q f) (sym (ap (λ i. i .fault .number) p) ∙ z)) in
           record {
             kept = y .kept;
             at = λ a w u. ap (stepped (on a w u)) (sym (stages-done (on a w u) s (rowsOf n r) (predicts a w u ∙ y .is)));
@@ -154,23 +156,23 @@ module _ (n x t : ℕ) (h e v q f s : Row) where
           let z : suc (10 - k) ≡ 11 - k = omega arith in
           ap (λ i. stepped (on a w u) (rule.corrections (on a w u) s i k (rowsOf n old))) z ∙ g .at a w u
 
-      pub corrected-refused : (r .number ≡ 0 → ⊥) → Advances (record { number = r .number; stage = stageOf (r .number) k; count = 0; trial = r })
+      pub corrected-refused : (r .fault .number ≡ 0 → ⊥) → Advances (record { answer = answers.refusal (r .fault) (stageOf (r .fault .number) k); trial = r })
       corrected-refused z =
           let y = why-refused n r o (staged-met true (old .q) (old .f)) p z in
           record {
             at =
                 λ a w u.
-                rw (ne-eqb (r .number) 0 z) (λ i. refusal (on a w u) (y .numbered i) (stage-met (r .number) k (y .such .0) (y .such .1) i))
+                rw (ne-eqb (r .fault .number) 0 z) (λ i. refusal (on a w u) (y .tells i) (stage-met (r .fault .number) k (y .such .0) (y .such .1) i))
                 ∙ correction-refused (on a w u) s (10 - k) k (rowsOf n old) (y .why) (corrects a w u old ∙ y .is)
                 ∙ unrolled a w u;
             kept = λ d. absurd (z d);
           }
 
-      module _ (z : r .number ≡ 0) where
+      module _ (z : r .fault .number ≡ 0) where
         pub corrected-kept : Returned n r o
-        corrected-kept = rw p (returned n most o (staged-sound true (old .q) (old .f)) (sym (ap (λ i. i .number) p) ∙ z))
+        corrected-kept = rw p (returned n most o (staged-sound true (old .q) (old .f)) (sym (ap (λ i. i .fault .number) p) ∙ z))
 
-        pub corrected-settled : rule.settled n (rowsOf n r) (rowsOf n old) ≡ true → Advances (record { number = 0; stage = 0; count = k; trial = r })
+        pub corrected-settled : rule.settled n (rowsOf n r) (rowsOf n old) ≡ true → Advances (record { answer = answers.acceptance k; trial = r })
         corrected-settled d =
             record {
               at =
@@ -194,13 +196,13 @@ module _ (n x t : ℕ) (h e v q f s : Row) where
             }
 
   -- after the tenth
-  pub unsettled : (k : ℕ) (old : Trial) → 10 < k → Going k old → Advances (record { number = 10; stage = stageOf 10 k; count = 0; trial = old })
+  pub unsettled : (k : ℕ) (old : Trial) → 10 < k → Going k old → Advances (record { answer = answers.refusal (plain 10) (stageOf 10 k); trial = old })
   unsettled k old h g =
       record {
         at =
             λ a w u.
             let i : 11 - k ≡ 0 = omega arith in
-            ap (refusal (on a w u) 10) (sym (stage-last 10 k refl))
+            ap (refusal (on a w u) (plain 10)) (sym (stage-last 10 k refl))
             ∙ corrections-end (on a w u) s k (rowsOf n old)
             ∙ ap (λ m. stepped (on a w u) (rule.corrections (on a w u) s m k (rowsOf n old))) (sym i)
             ∙ g .at a w u;

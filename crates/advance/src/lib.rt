@@ -2,11 +2,9 @@
 ghost use Rattle.stage.specs.Asked.{Staging};
 ghost use Rattle.advance.specs.Advance.{Advances};
 
-// Where the stages of a step ended: a refusal with its stage, or the count of corrections and the trial that settled.
+// Where the stages of a step ended: a refusal, or the count of corrections and the trial that settled.
 pub struct Advanced {
-    pub number: u64,
-    pub stage: u64,
-    pub count: u64,
+    pub answer: rule::Answer,
     pub trial: stage::Trial,
 }
 
@@ -24,12 +22,10 @@ pub fn advance(
     ensures { λ r. ⌜ Advances (c .n) (c .x) (c .t) (now (h .entry)) (now (e .entry)) (now (v .entry)) (now (q .entry)) (now (f .entry)) (now (s .entry)) r ⌝ }
 {
     let mut old = stage::stage(false, c, h, e, v, q, f, s, q, f);
-    let predicted = old.number;
-    if predicted != 0 {
+    let predicted = old.fault;
+    if predicted.number != 0 {
         return Advanced {
-            number: predicted,
-            stage: answers::stage_of(predicted, 0),
-            count: 0,
+            answer: answers::refused(predicted, 0),
             trial: old,
         };
     }
@@ -44,12 +40,10 @@ pub fn advance(
         let before_q: &[i64] = &fluxes;
         let before_f: &[i64] = &accelerations;
         let new = stage::stage(true, c, h, e, v, q, f, s, before_q, before_f);
-        let number = new.number;
-        if number != 0 {
+        let corrected = new.fault;
+        if corrected.number != 0 {
             return Advanced {
-                number,
-                stage: answers::stage_of(number, k),
-                count: 0,
+                answer: answers::refused(corrected, k),
                 trial: new,
             };
         }
@@ -57,19 +51,19 @@ pub fn advance(
         let new_u = new.u;
         if stage::settled(c.n, &new_e, &new_u, before_e, before_u) {
             return Advanced {
-                number: 0,
-                stage: 0,
-                count: k,
+                answer: answers::accepted(k),
                 trial: new,
             };
         }
         old = new;
         k += 1;
     }
-    Advanced {
+    let unsettled = rule::Fault {
         number: 10,
-        stage: answers::stage_of(10, k),
-        count: 0,
+        place: 0,
+    };
+    Advanced {
+        answer: answers::refused(unsettled, k),
         trial: old,
     }
 }

@@ -1,19 +1,17 @@
 // A step but for what it stores: its checks, then its stages.
 ghost use mathlib.Core.Path.{_≡_};
 ghost use Rattle.rule.specs.Counted.{counted};
-ghost use Rattle.answers.specs.Stages.{stageOf};
+ghost use Rattle.answers.specs.Stages.{early};
 ghost use Rattle.stage.specs.Trials.{stopped};
 ghost use Rattle.attempt.specs.Attempt.{Attempted, ended};
 
 // An advance that is refused before any stage.
-fn refused(number: u64) -> advance::Advanced
-    ensures { λ r. ⌜ r ≡ ended number (stageOf number 0) (stopped number) ⌝ }
+fn refused(fault: rule::Fault) -> advance::Advanced
+    ensures { λ r. ⌜ r ≡ ended (early fault) (stopped fault) ⌝ }
 {
     advance::Advanced {
-        number,
-        stage: answers::stage_of(number, 0),
-        count: 0,
-        trial: stage::refusal(number),
+        answer: answers::refused(fault, 0),
+        trial: stage::refusal(fault.number, fault.place),
     }
 }
 
@@ -30,12 +28,15 @@ pub fn attempt(
 ) -> advance::Advanced
     ensures { λ r. ⌜ Attempted (counted c (now (h .entry)) (now (e .entry)) (now (u .entry)) (now (v .entry)) (now (q .entry)) (now (f .entry))) (now (s .entry)) r ⌝ }
 {
-    let number = checks::check(c, h, e, u, v, q, f, true, s);
-    if number != 0 {
-        return refused(number);
+    let fault = checks::check(c, h, e, u, v, q, f, true, s);
+    if fault.number != 0 {
+        return refused(fault);
     }
     if c.accepted == c.wanted {
-        return refused(11);
+        return refused(rule::Fault {
+            number: 11,
+            place: 0,
+        });
     }
     advance::advance(c, h, e, v, q, f, s)
 }

@@ -7,14 +7,14 @@ use lib.ListN.{length, getD}
 use Rattle.rule.specs.declared.Answer.{Answer}
 use Rattle.rule.specs.Rows.{Row}
 use Rattle.rule.specs.Channel.{Channel}
-use Rattle.rule.specs.Refusals.{Outcome, refused, done, number, numberOf}
+use Rattle.rule.specs.Refusals.{Outcome, refused, done, numberOf, placeOf, faultOf}
 use Rattle.rule.specs.Checks.{checked}
 use Rattle.rule.specs.Layout.{lengthOf}
 use Rattle.rule.specs.File.{edition, countOf, channelOf, readWith}
 use Rattle.rule.specs.Calls.{Called, onFile, rowIn, stepCall, filterCall, runForCall, stepFile, filterFile, runForFile}
 use Rattle.rule.specs.Ranges.{leastCells, mostCells}
-use Rattle.answers.specs.Stages.{early, stage-none, leavesBytes}
-use Rattle.checks.specs.Numbers.{Outside}
+use Rattle.answers.specs.Stages.{refusal, early, early-is, leavesBytes}
+use Rattle.checks.specs.Numbers.{told, Outside}
 use Rattle.checks.specs.Allowed.{pouredRows, unpoured}
 use Rattle.form.specs.Reader.{fitsIn}
 use Rattle.opened.specs.Opened.{Opened, read-outside, plain-read, poured-read}
@@ -65,9 +65,9 @@ same-poured Filter r s c e = refl
 same-poured (Run most) r s c e = refl
 
 -- an answer of the reader that refuses
-by-refused : (f : Channel → Called Channel) (s : List ℕ) (m : Outcome Channel) → Outside m → (r : Answer) → r ≡ early (numberOf m) → (r .number ≡ 0 → ⊥) → leavesBytes r s ≡ onFile f s m
-unfolding onFile numberOf
-by-refused f s (refused why k) h r e z = ap (λ a. leavesBytes a s) e ∙ rw (h .0, stage-none (number why) (h .1))
+by-refused : (f : Channel → Called Channel) (s : List ℕ) (m : Outcome Channel) → Outside m → (r : Answer) → r ≡ early (faultOf m) → (r .number ≡ 0 → ⊥) → leavesBytes r s ≡ onFile f s m
+unfolding onFile numberOf placeOf
+by-refused f s (refused why k) h r e z = ap (λ a. leavesBytes a s) (e ∙ early-is why (h .1) ∙ ap (refusal (told why)) (sym (h .0)))
 by-refused f s (done c) h r e z = absurd (z (ap (λ (a : Answer). a .number) e))
 
 -- what a call on the channel of a file s of n cells asks: that the reader takes it, with the row in the bytes p
@@ -87,7 +87,7 @@ module _ (call : Call) (s p : List ℕ) where
   Taken = Opened (fitsIn (poursOf call) p) (pouredRows (poursOf call) (rowIn p)) s
 
   -- bytes that the reader refuses
-  pub refused-by : (r : Answer) → r ≡ early (numberOf (readWith fits (pouredRows (poursOf call) (rowIn p)) s)) → (r .number ≡ 0 → ⊥) → leavesBytes r s ≡ fileCall call s p
+  pub refused-by : (r : Answer) → r ≡ early (faultOf (readWith fits (pouredRows (poursOf call) (rowIn p)) s)) → (r .number ≡ 0 → ⊥) → leavesBytes r s ≡ fileCall call s p
   unfolding fileCall
   refused-by r e z = by-refused (callOf call (rowIn p)) s (readWith fits (pouredRows (poursOf call) (rowIn p)) s) (read-outside fits (pouredRows (poursOf call) (rowIn p)) s) r e z
 

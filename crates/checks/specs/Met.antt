@@ -1,47 +1,58 @@
--- Refusal numbers: what the checks of an input refuse by, 1 to 5, outside the stages of a step. Assumes nothing.
-use Prim.Native.Nat.{ℕ, _≤_}
-use mathlib.Core.Bool.{Bool}
-use mathlib.Core.List.{List}
-use lib.Dec.{lit≤}
+-- Refusal numbers: what the checks of an input refuse by, 1 to 5 and 31 to 37, outside the stages of a step. Assumes nothing.
+use Prim.Native.Nat.{ℕ}
+use mathlib.Core.Path.{refl}
+use mathlib.Core.List.{List, [], _∷_}
 use Rattle.rule.specs.Rows.{Row}
+use Rattle.rule.specs.Ranges.{between}
 use Rattle.rule.specs.Channel.{Channel}
-use Rattle.rule.specs.Refusals.{Refusal, Outcome, number, _>>=_, require, shape, counts, value, depth, dominance}
-use Rattle.rule.specs.Checks.{wet, allowed, checked}
+use Rattle.rule.specs.Refusals.{number, shape, counts, depthValue, heightValue, velocityValue, reducedValue, fluxValue, accelerationValue, pouredValue, depth, dominance}
+use Rattle.rule.specs.Checks.{deep, wet, pourable, allowed, checked}
 use Rattle.rule.specs.Make.{makeChecked}
-use Rattle.checks.specs.Numbers.{Met, Outside, outside-met, refuses-test, refuses-last, From}
+use Rattle.checks.specs.Numbers.{Refuses, ofInput, Input, Outside, outside-input, refuses-then, refuses-test, refuses-each, refuses-levels}
 
-test : {B : Type 0} (b : Bool) (r : Refusal) (f : Unit {0} → Outcome B) → 1 ≤ number r → number r ≤ 5 → Met 1 5 (f tt) → Met 1 5 (require b r >>= f)
-test b r f p q h = refuses-test (From 1 5) b r f (p, q) h
+wet-met : (n X : ℕ) (h e : Row) → Refuses Input (wet n X h e)
+unfolding wet deep number ofInput between
+wet-met n X h e =
+    refuses-then Input _ _ (refuses-each Input _ _ depth (λ j. refl)) (λ _. refuses-each Input _ _ dominance (λ j. refl))
 
-pub wet-met : (n X : ℕ) (h e : Row) → Met 1 5 (wet n X h e)
-unfolding wet number
-wet-met n X h e = test _ depth _ (lit≤ tt) (lit≤ tt) (refuses-last (From 1 5) _ dominance (lit≤ tt, lit≤ tt))
+pours-met : (poured : List Row) → Refuses Input (pourable poured)
+unfolding pourable number ofInput between
+pours-met [] = tt
+pours-met (s ∷ more) = refuses-then Input _ _ (refuses-each Input _ _ pouredValue (λ j. refl)) (λ _. pours-met more)
 
-pub allowed-met : (c : Channel) (poured : List Row) → Met 1 5 (allowed c poured)
-unfolding allowed number
+pub allowed-met : (c : Channel) (poured : List Row) → Refuses Input (allowed c poured)
+unfolding allowed number ofInput between
 allowed-met c poured =
-    test _ counts _ (lit≤ tt) (lit≤ tt)
-    (test _ value _ (lit≤ tt) (lit≤ tt)
-    (test _ value _ (lit≤ tt) (lit≤ tt)
-    (test _ value _ (lit≤ tt) (lit≤ tt)
-    (test _ value _ (lit≤ tt) (lit≤ tt)
-    (test _ value _ (lit≤ tt) (lit≤ tt)
-    (test _ value _ (lit≤ tt) (lit≤ tt)
-    (test _ value _ (lit≤ tt) (lit≤ tt) (wet-met (c .N) (c .X) (c .h) (c .e)))))))))
+    refuses-test Input _ counts _ refl
+    (refuses-then Input _ _ (refuses-each Input _ _ depthValue (λ j. refl)) (λ _.
+    refuses-then Input _ _ (refuses-each Input _ _ heightValue (λ j. refl)) (λ _.
+    refuses-then Input _ _ (refuses-each Input _ _ velocityValue (λ j. refl)) (λ _.
+    refuses-then Input _ _ (refuses-each Input _ _ reducedValue (λ j. refl)) (λ _.
+    refuses-then Input _ _ (refuses-levels Input _ _ _ fluxValue (λ j. refl)) (λ _.
+    refuses-then Input _ _ (refuses-levels Input _ _ _ accelerationValue (λ j. refl)) (λ _.
+    refuses-then Input _ _ (pours-met poured) (λ _.
+    wet-met (c .N) (c .X) (c .h) (c .e)))))))))
 
-pub checked-met : (c : Channel) (poured : List Row) → Met 1 5 (checked c poured)
-unfolding checked number
-checked-met c poured = test _ shape _ (lit≤ tt) (lit≤ tt) (allowed-met c poured)
+pub checked-met : (c : Channel) (poured : List Row) → Refuses Input (checked c poured)
+unfolding checked number ofInput between
+checked-met c poured = refuses-test Input _ shape _ refl (allowed-met c poured)
 
-pub make-checked-met : (n X T wanted : ℕ) (h e u : Row) → Met 1 5 (makeChecked n X T wanted h e u)
-unfolding makeChecked number
+pub make-checked-met : (n X T wanted : ℕ) (h e u : Row) → Refuses Input (makeChecked n X T wanted h e u)
+unfolding makeChecked number ofInput between
 make-checked-met n X T wanted h e u =
-    test _ shape _ (lit≤ tt) (lit≤ tt)
-    (test _ counts _ (lit≤ tt) (lit≤ tt)
-    (test _ value _ (lit≤ tt) (lit≤ tt)
-    (test _ value _ (lit≤ tt) (lit≤ tt)
-    (test _ value _ (lit≤ tt) (lit≤ tt) (wet-met n X h e)))))
+    refuses-test Input _ shape _ refl
+    (refuses-test Input _ counts _ refl
+    (refuses-then Input _ _ (refuses-each Input _ _ depthValue (λ j. refl)) (λ _.
+    refuses-then Input _ _ (refuses-each Input _ _ heightValue (λ j. refl)) (λ _.
+    refuses-then Input _ _ (refuses-each Input _ _ velocityValue (λ j. refl)) (λ _.
+    wet-met n X h e)))))
 
 -- so that each has stage 0
+pub allowed-outside : (c : Channel) (poured : List Row) → Outside (allowed c poured)
+allowed-outside c poured = outside-input (allowed c poured) (allowed-met c poured)
+
 pub checked-outside : (c : Channel) (poured : List Row) → Outside (checked c poured)
-checked-outside c poured = outside-met 1 5 (checked c poured) (lit≤ tt) (checked-met c poured)
+checked-outside c poured = outside-input (checked c poured) (checked-met c poured)
+
+pub make-checked-outside : (n X T wanted : ℕ) (h e u : Row) → Outside (makeChecked n X T wanted h e u)
+make-checked-outside n X T wanted h e u = outside-input (makeChecked n X T wanted h e u) (make-checked-met n X T wanted h e u)

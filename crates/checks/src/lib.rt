@@ -1,72 +1,30 @@
-// "Refusal numbers": the checks of an input, in the order 1, 2, 3, 4, 5.
+// "Refusal numbers": the checks of an input, in the order 1, 2, 31 to 37, 4, 5.
 ghost use mathlib.Core.Path.{_≡_};
 ghost use mathlib.Core.Bool.{_&&_};
 ghost use mathlib.Core.List.{[], _∷_};
-ghost use Prim.Native.Nat.{_≤_, _^_};
+ghost use Prim.Native.Nat.{_≤_};
+ghost use lib.IntN.{pos};
 ghost use lib.ListN.{length};
-ghost use Rattle.rule.specs.Rows.{all, map, same};
-ghost use Rattle.rule.specs.Channel.{lengths};
+ghost use lib.Signed.{leZ};
+ghost use Rattle.rule.specs.Rows.{map, same, lowest};
+ghost use Rattle.rule.specs.Channel.{lengths, water};
 ghost use Rattle.rule.specs.Counted.{counted};
 ghost use Rattle.rule.specs.Ranges as rule;
+ghost use Rattle.rule.specs.Ranges.{leastWater};
 ghost use Rattle.rule.specs.Checks as checks;
-ghost use Rattle.rule.specs.Refusals.{done, numberOf};
-ghost use Rattle.rows.specs.Firsts.{firsts};
+ghost use Rattle.rule.specs.Refusals.{numberOf, faultOf};
 ghost use Rattle.coefficients.specs.Ready.{Bed};
 ghost use Rattle.whole.specs.Row.{Within};
 ghost use Rattle.checks.specs.Allowed.{pouredRows};
 ghost use Rattle.checks.specs.Asked.{Water};
-ghost use Rattle.checks.specs.Facts.{valuesAllowed, levelsAllowed};
+ghost use Rattle.checks.specs.Facts.{isDeep};
 ghost use Rattle.rule.specs.Make.{makeChecked};
-ghost use Rattle.checks.specs.Order.{inOrder};
+ghost use Rattle.checks.specs.Order.{formed};
 
-// An entry is within `most` of zero.
-fn within(x: i64, most: u64) -> bool
-    requires { ⌜ most ≤ 2 ^ 62 ⌝ }
-    ensures { λ r. ⌜ r ≡ rule.within most x ⌝ }
-{
-    let top = most as i64;
-    (0 - top <= x) & (x <= top)
-}
-
-// Each of the first n entries is within `most` of zero. The loop goes to its end, so that entries are tested side by side.
-pub fn all_within(row: &[i64], n: usize, most: u64) -> bool
-    requires { ⌜ (n ≤ length (now row)) × (most ≤ 2 ^ 62) ⌝ }
-    ensures { λ r. ⌜ r ≡ checks.small most (firsts n (now (row .entry))) ⌝ }
-{
-    let mut fine = true;
-    let mut j = 0;
-    while j < n {
-        fine = fine & within(row[j], most);
-        j += 1;
-    }
-    fine
-}
-
-// A depth is from 1 to 20,000 mm.
-fn depth_allowed(h: i64) -> bool
-    ensures { λ r. ⌜ r ≡ rule.depthAllowed h ⌝ }
-{
-    (1 <= h) & (h <= rule::MOST_DEPTH)
-}
-
-// Each of the first n depths is allowed.
-pub fn all_depths(h: &[i64], n: usize) -> bool
-    requires { ⌜ n ≤ length (now h) ⌝ }
-    ensures { λ r. ⌜ r ≡ all rule.depthAllowed (firsts n (now (h .entry))) ⌝ }
-{
-    let mut fine = true;
-    let mut j = 0;
-    while j < n {
-        fine = fine & depth_allowed(h[j]);
-        j += 1;
-    }
-    fine
-}
-
-// At least 1,000 µm of water in every cell.
-pub fn deep(h: &[i64], e: &[i64], n: usize) -> bool
+// At least 1,000 µm of water in every cell. The loop goes to its end, so that cells are tested side by side.
+fn deep(h: &[i64], e: &[i64], n: usize) -> bool
     requires { ⌜ Water n (now h) (now e) ⌝ }
-    ensures { λ r. ⌜ r ≡ checks.deep n (now (h .entry)) (now (e .entry)) ⌝ }
+    ensures { λ r. ⌜ r ≡ isDeep n (now (h .entry)) (now (e .entry)) ⌝ }
 {
     let mut fine = true;
     let mut j = 0;
@@ -77,18 +35,42 @@ pub fn deep(h: &[i64], e: &[i64], n: usize) -> bool
     fine
 }
 
-// 4, then 5: what depths and heights must meet together.
-pub fn wet(n: usize, x: u64, h: &[i64], e: &[i64]) -> u64
-    requires { ⌜ Bed n x (now h) × ((n ≤ length (now e)) × Within 74_000_000_000 n (now e)) ⌝ }
-    ensures { λ r. ⌜ r ≡ numberOf (checks.wet n x (now (h .entry)) (now (e .entry))) ⌝ }
+// The lowest cell, counted from 1, that has less than 1,000 µm of water; 0 where each has as much.
+fn search_dry(h: &[i64], e: &[i64], n: usize) -> u64
+    requires { ⌜ Water n (now h) (now e) ⌝ }
+    ensures { λ r. ⌜ r ≡ lowest (leZ (pos leastWater)) (water n (now (h .entry)) (now (e .entry))) ⌝ }
 {
-    if !deep(h, e, n) {
-        return 4;
+    let mut place = 0;
+    let mut j = 0;
+    while j < n {
+        place = places::lower(place, rule::LEAST_WATER <= 1000 * h[j] + e[j], j);
+        j += 1;
     }
-    if !coefficients::all_dominant(n, x, h) {
-        return 5;
+    place
+}
+
+// The same. Cells that have as much are only tested, which is quicker.
+pub fn lowest_dry(h: &[i64], e: &[i64], n: usize) -> u64
+    requires { ⌜ Water n (now h) (now e) ⌝ }
+    ensures { λ r. ⌜ r ≡ lowest (leZ (pos leastWater)) (water n (now (h .entry)) (now (e .entry))) ⌝ }
+{
+    if deep(h, e, n) {
+        return 0;
     }
-    0
+    search_dry(h, e, n)
+}
+
+// 4, then 5: what depths and heights must meet together.
+pub fn wet(n: usize, x: u64, h: &[i64], e: &[i64]) -> rule::Fault
+    requires { ⌜ Bed n x (now h) × ((n ≤ length (now e)) × Within 74_000_000_000 n (now e)) ⌝ }
+    ensures { λ r. ⌜ r ≡ faultOf (checks.wet n x (now (h .entry)) (now (e .entry))) ⌝ }
+{
+    let none = rule::Fault {
+        number: 0,
+        place: 0,
+    };
+    let steep = places::or_fault(5, coefficients::lowest_not_dominant(n, x, h), none);
+    places::or_fault(4, lowest_dry(h, e, n), steep)
 }
 
 pub fn cells_allowed(n: usize) -> bool
@@ -122,24 +104,6 @@ pub fn shaped(n: usize, h: &[i64], e: &[i64], u: &[i64], v: &[i64], q: &[i64], f
         & (f.len() == 3 * n)
 }
 
-// 3: depths, heights and velocities.
-fn values_allowed(h: &[i64], e: &[i64], u: &[i64]) -> bool
-    ensures { λ r. ⌜ r ≡ valuesAllowed (now (h .entry)) (now (e .entry)) (now (u .entry)) ⌝ }
-{
-    all_depths(h, h.len())
-        & all_within(e, e.len(), rule::MOST_HEIGHT)
-        & all_within(u, u.len(), rule::MOST_VELOCITY)
-}
-
-// 3: reduced velocities and the levels of Q and F.
-fn levels_allowed(v: &[i64], q: &[i64], f: &[i64]) -> bool
-    ensures { λ r. ⌜ r ≡ levelsAllowed (now (v .entry)) (now (q .entry)) (now (f .entry)) ⌝ }
-{
-    all_within(v, v.len(), rule::MOST_REDUCED)
-        & all_within(q, q.len(), rule::MOST_FLUX)
-        & all_within(f, f.len(), rule::MOST_ACCELERATION)
-}
-
 // 1: a poured row has n entries.
 fn poured_shaped(n: usize, poured: bool, s: &[i64]) -> bool
     ensures { λ r. ⌜ r ≡ checks.long n (pouredRows poured (now (s .entry))) ⌝ }
@@ -147,20 +111,9 @@ fn poured_shaped(n: usize, poured: bool, s: &[i64]) -> bool
     if poured { s.len() == n } else { true }
 }
 
-// 3: the entries of a poured row.
-fn poured_allowed(poured: bool, s: &[i64]) -> bool
-    ensures { λ r. ⌜ r ≡ all (checks.small rule.mostPoured) (pouredRows poured (now (s .entry))) ⌝ }
-{
-    if poured {
-        all_within(s, s.len(), rule::MOST_POURED)
-    } else {
-        true
-    }
-}
-
-// The number of the first of three tests that fails, or 0.
-fn first(shape: bool, counts: bool, values: bool) -> u64
-    ensures { λ r. ⌜ r ≡ numberOf (inOrder shape counts values (done tt)) ⌝ }
+// 1 or 2, where its test fails, or 0.
+fn first(shape: bool, counts: bool) -> u64
+    ensures { λ r. ⌜ r ≡ numberOf (formed shape counts) ⌝ }
 {
     if !shape {
         return 1;
@@ -168,13 +121,10 @@ fn first(shape: bool, counts: bool, values: bool) -> u64
     if !counts {
         return 2;
     }
-    if !values {
-        return 3;
-    }
     0
 }
 
-// The checks of a channel, and of the row s where it is poured: 0, or the number of the first that fails.
+// The checks of a channel, and of the row s where it is poured: the first that fails, with its lowest place.
 pub fn check(
     c: rule::Counts,
     h: &[i64],
@@ -185,15 +135,21 @@ pub fn check(
     f: &[i64],
     poured: bool,
     s: &[i64],
-) -> u64
-    ensures { λ r. ⌜ r ≡ numberOf (checks.checked (counted c (now (h .entry)) (now (e .entry)) (now (u .entry)) (now (v .entry)) (now (q .entry)) (now (f .entry))) (pouredRows poured (now (s .entry)))) ⌝ }
+) -> rule::Fault
+    ensures { λ r. ⌜ r ≡ faultOf (checks.checked (counted c (now (h .entry)) (now (e .entry)) (now (u .entry)) (now (v .entry)) (now (q .entry)) (now (f .entry))) (pouredRows poured (now (s .entry)))) ⌝ }
 {
     let shape = shaped(c.n, h, e, u, v, q, f) & poured_shaped(c.n, poured, s);
     let allowed = counts_allowed(c.x, c.t, c.wanted, c.accepted);
-    let values = values_allowed(h, e, u) & levels_allowed(v, q, f) & poured_allowed(poured, s);
-    let number = first(shape, allowed, values);
+    let number = first(shape, allowed);
     if number != 0 {
-        return number;
+        return rule::Fault { number, place: 0 };
+    }
+    let amounts = values::poured(poured, s);
+    let levels = values::levels_or(c.n, q, f, amounts);
+    let speeds = values::speeds_or(u, v, levels);
+    let fault = values::bed_or(h, e, speeds);
+    if fault.number != 0 {
+        return fault;
     }
     wet(c.n, c.x, h, e)
 }
@@ -205,16 +161,23 @@ fn make_shaped(n: usize, h: &[i64], e: &[i64], u: &[i64]) -> bool
     cells_allowed(n) & ((h.len() == n) & (e.len() == n) & (u.len() == n))
 }
 
-// The checks of make's input, whose count of accepted steps is not looked at: 0, or the number of the first that fails.
-pub fn check_made(c: rule::Counts, h: &[i64], e: &[i64], u: &[i64]) -> u64
-    ensures { λ r. ⌜ r ≡ numberOf (makeChecked (c .n) (c .x) (c .t) (c .wanted) (now (h .entry)) (now (e .entry)) (now (u .entry))) ⌝ }
+// The checks of make's input, whose count of accepted steps is not looked at: the first that fails, with its lowest place.
+pub fn check_made(c: rule::Counts, h: &[i64], e: &[i64], u: &[i64]) -> rule::Fault
+    ensures { λ r. ⌜ r ≡ faultOf (makeChecked (c .n) (c .x) (c .t) (c .wanted) (now (h .entry)) (now (e .entry)) (now (u .entry))) ⌝ }
 {
     let shape = make_shaped(c.n, h, e, u);
     let allowed = counts_allowed(c.x, c.t, c.wanted, 0);
-    let values = values_allowed(h, e, u);
-    let number = first(shape, allowed, values);
+    let number = first(shape, allowed);
     if number != 0 {
-        return number;
+        return rule::Fault { number, place: 0 };
+    }
+    let none = rule::Fault {
+        number: 0,
+        place: 0,
+    };
+    let fault = values::bed_or(h, e, values::velocities_or(u, none));
+    if fault.number != 0 {
+        return fault;
     }
     wet(c.n, c.x, h, e)
 }

@@ -3,7 +3,7 @@ ghost use mathlib.Core.Path.{_≡_};
 ghost use Prim.Native.Nat.{_<_, _≤_};
 ghost use lib.IntN.{natAbs};
 ghost use Rattle.whole.specs.Row.{tab};
-ghost use Rattle.rule.specs.Rows.{all};
+ghost use Rattle.rule.specs.Rows.{lowest};
 ghost use Rattle.rule.specs.Coefficients.{scale, beside, coefficients, dominant};
 ghost use Rattle.rule.specs.Ranges.{mostWidth, mostDepth};
 ghost use Rattle.coefficients.specs.Ready.{Bed, Sized};
@@ -53,17 +53,16 @@ pub fn dominant(r: rule::Coefficients) -> bool
     round::size(r.a) + round::size(r.c) < round::size(r.b)
 }
 
-// Every row is dominant.
-pub fn all_dominant(n: usize, x: u64, h: &[i64]) -> bool
+// The lowest cell, counted from 1, whose row is not dominant; 0 where every row is.
+pub fn lowest_not_dominant(n: usize, x: u64, h: &[i64]) -> u64
     requires { ⌜ Bed n x (now h) ⌝ }
-    ensures { λ r. ⌜ r ≡ all dominant (tab n (coefficients n x (now (h .entry)))) ⌝ }
+    ensures { λ r. ⌜ r ≡ lowest dominant (tab n (coefficients n x (now (h .entry)))) ⌝ }
 {
+    let mut place = 0;
     let mut j = 0;
     while j < n {
-        if !dominant(coefficients(n, x, h, j)) {
-            return false;
-        }
+        place = places::lower(place, dominant(coefficients(n, x, h, j)), j);
         j += 1;
     }
-    true
+    place
 }

@@ -1,6 +1,6 @@
 -- Whole calls over rows, computed by the prover: each way a step or a run ends, and a step of 24 cells.
 -- The numbers are the second program's: tests/compare/computed writes this file from tests/compare/calls.txt, and asks again in the tests.
--- A channel is its counts N, X, T, accepted, wanted and its rows h, e, u, V, Q, F; an answer is number, stage and count.
+-- A channel is its counts N, X, T, accepted, wanted and its rows h, e, u, V, Q, F; an answer is number, stage, place and count.
 use mathlib.Core.Path.{_≡_}
 use mathlib.Core.List.{[], _∷_}
 use lib.IntN.{pos}
@@ -36,9 +36,9 @@ make-uneven-after =
     (thrice (pos 281362 ∷ pos 97935 ∷ minus 109698 ∷ minus 87065 ∷ pos 127120 ∷ minus 217041 ∷ pos 49729 ∷
     pos 333363 ∷ minus 221382 ∷ []))
 
-pub make-uneven : makeCall make-uneven-before ≡ answers 0 0 0 make-uneven-after
+pub make-uneven : makeCall make-uneven-before ≡ answers 0 0 0 0 make-uneven-after
 unfolding opened
-make-uneven = alike channels (makeCall make-uneven-before) (answers 0 0 0 make-uneven-after) tt
+make-uneven = alike channels (makeCall make-uneven-before) (answers 0 0 0 0 make-uneven-after) tt
 
 -- a step that settles at its first correction
 abbrev step-settled-at-once-before : Channel
@@ -67,12 +67,12 @@ step-settled-at-once-after =
 
 pub step-settled-at-once :
     stepCall step-settled-at-once-before (replicate 8 (pos 0))
-    ≡ answers 0 0 1 step-settled-at-once-after
+    ≡ answers 0 0 0 1 step-settled-at-once-after
 unfolding opened
 step-settled-at-once =
     alike channels
     (stepCall step-settled-at-once-before (replicate 8 (pos 0)))
-    (answers 0 0 1 step-settled-at-once-after) tt
+    (answers 0 0 0 1 step-settled-at-once-after) tt
 
 -- a rough step that takes eight corrections
 abbrev step-eight-corrections-before : Channel
@@ -109,12 +109,12 @@ step-eight-corrections-after =
 
 pub step-eight-corrections :
     stepCall step-eight-corrections-before (replicate 8 (pos 0))
-    ≡ answers 0 0 8 step-eight-corrections-after
+    ≡ answers 0 0 0 8 step-eight-corrections-after
 unfolding opened
 step-eight-corrections =
     alike channels
     (stepCall step-eight-corrections-before (replicate 8 (pos 0)))
-    (answers 0 0 8 step-eight-corrections-after) tt
+    (answers 0 0 0 8 step-eight-corrections-after) tt
 
 -- ten corrections that do not settle
 abbrev step-unsettled-before : Channel
@@ -131,12 +131,12 @@ step-unsettled-before =
     (thrice (pos 531372 ∷ minus 913784 ∷ minus 12373482 ∷ minus 4708053 ∷ pos 3640149 ∷ pos 1608299 ∷
     pos 2963801 ∷ pos 2428145 ∷ []))
 
-pub step-unsettled : stepCall step-unsettled-before (replicate 8 (pos 0)) ≡ answers 10 10 0 step-unsettled-before
+pub step-unsettled : stepCall step-unsettled-before (replicate 8 (pos 0)) ≡ answers 10 10 0 0 step-unsettled-before
 unfolding opened
 step-unsettled =
     alike channels
     (stepCall step-unsettled-before (replicate 8 (pos 0)))
-    (answers 10 10 0 step-unsettled-before) tt
+    (answers 10 10 0 0 step-unsettled-before) tt
 
 -- a cell falls dry at the first correction
 abbrev step-dry-at-a-correction-before : Channel
@@ -159,12 +159,12 @@ step-dry-at-a-correction-poured =
 
 pub step-dry-at-a-correction :
     stepCall step-dry-at-a-correction-before step-dry-at-a-correction-poured
-    ≡ answers 4 1 0 step-dry-at-a-correction-before
+    ≡ answers 4 1 2 0 step-dry-at-a-correction-before
 unfolding opened
 step-dry-at-a-correction =
     alike channels
     (stepCall step-dry-at-a-correction-before step-dry-at-a-correction-poured)
-    (answers 4 1 0 step-dry-at-a-correction-before) tt
+    (answers 4 1 2 0 step-dry-at-a-correction-before) tt
 
 -- u leaves its range at a correction
 abbrev step-too-fast-before : Channel
@@ -181,12 +181,12 @@ step-too-fast-before =
     (thrice (pos 4541701 ∷ minus 116572435 ∷ pos 8025421 ∷ pos 127609264 ∷ pos 212699 ∷ minus 35128762 ∷
     minus 61981243 ∷ pos 88458452 ∷ []))
 
-pub step-too-fast : stepCall step-too-fast-before (replicate 8 (pos 0)) ≡ answers 7 1 0 step-too-fast-before
+pub step-too-fast : stepCall step-too-fast-before (replicate 8 (pos 0)) ≡ answers 7 1 0 0 step-too-fast-before
 unfolding opened
 step-too-fast =
     alike channels
     (stepCall step-too-fast-before (replicate 8 (pos 0)))
-    (answers 7 1 0 step-too-fast-before) tt
+    (answers 7 1 0 0 step-too-fast-before) tt
 
 -- a channel of 24 cells
 abbrev make-wide-before : Channel
@@ -227,9 +227,9 @@ make-wide-after =
     minus 33523 ∷ pos 60058 ∷ minus 224520 ∷ minus 119783 ∷ minus 64024 ∷ pos 211746 ∷ minus 3979 ∷
     minus 315089 ∷ pos 160530 ∷ pos 157926 ∷ []))
 
-pub make-wide : makeCall make-wide-before ≡ answers 0 0 0 make-wide-after
+pub make-wide : makeCall make-wide-before ≡ answers 0 0 0 0 make-wide-after
 unfolding opened
-make-wide = alike channels (makeCall make-wide-before) (answers 0 0 0 make-wide-after) tt
+make-wide = alike channels (makeCall make-wide-before) (answers 0 0 0 0 make-wide-after) tt
 
 -- a step of 24 cells with a poured row
 abbrev step-wide-after : Channel
@@ -266,9 +266,9 @@ step-wide-poured =
     minus 366 ∷ minus 259 ∷ pos 418 ∷ pos 210 ∷ pos 428 ∷ minus 429 ∷ minus 99 ∷ minus 477 ∷ pos 727 ∷
     minus 274 ∷ minus 74 ∷ minus 764 ∷ pos 60 ∷ minus 158 ∷ pos 803 ∷ []
 
-pub step-wide : stepCall make-wide-after step-wide-poured ≡ answers 0 0 2 step-wide-after
+pub step-wide : stepCall make-wide-after step-wide-poured ≡ answers 0 0 0 2 step-wide-after
 unfolding opened
-step-wide = alike channels (stepCall make-wide-after step-wide-poured) (answers 0 0 2 step-wide-after) tt
+step-wide = alike channels (stepCall make-wide-after step-wide-poured) (answers 0 0 0 2 step-wide-after) tt
 
 -- the channel of 'One step by hand' in docs/RULE.md
 abbrev make-by-hand-before : Channel
@@ -291,9 +291,9 @@ make-by-hand-after =
     (replicate 21 (pos 0))
     (thrice (pos 0 ∷ pos 9810 ∷ minus 78480 ∷ pos 0 ∷ pos 78480 ∷ minus 9810 ∷ pos 0 ∷ pos 0 ∷ []))
 
-pub make-by-hand : makeCall make-by-hand-before ≡ answers 0 0 0 make-by-hand-after
+pub make-by-hand : makeCall make-by-hand-before ≡ answers 0 0 0 0 make-by-hand-after
 unfolding opened
-make-by-hand = alike channels (makeCall make-by-hand-before) (answers 0 0 0 make-by-hand-after) tt
+make-by-hand = alike channels (makeCall make-by-hand-before) (answers 0 0 0 0 make-by-hand-after) tt
 
 -- its first step, whose stages are worked out there: three corrections
 abbrev step-by-hand-after : Channel
@@ -309,12 +309,12 @@ step-by-hand-after =
     (onto (minus 232 ∷ pos 9736 ∷ minus 77888 ∷ minus 1 ∷ pos 77896 ∷ minus 9741 ∷ pos 188 ∷ minus 31 ∷ [])
     (make-by-hand-after .F))
 
-pub step-by-hand : stepCall make-by-hand-after (replicate 8 (pos 0)) ≡ answers 0 0 3 step-by-hand-after
+pub step-by-hand : stepCall make-by-hand-after (replicate 8 (pos 0)) ≡ answers 0 0 0 3 step-by-hand-after
 unfolding opened
 step-by-hand =
     alike channels
     (stepCall make-by-hand-after (replicate 8 (pos 0)))
-    (answers 0 0 3 step-by-hand-after) tt
+    (answers 0 0 0 3 step-by-hand-after) tt
 
 -- an early cell falls dry and a later one is too high: the check of heights goes over all cells first
 abbrev filter-too-high-before : Channel
@@ -328,9 +328,72 @@ filter-too-high-before =
     (replicate 21 (pos 0))
     (replicate 24 (pos 0))
 
-pub filter-too-high : filterCall filter-too-high-before ≡ answers 8 0 0 filter-too-high-before
+pub filter-too-high : filterCall filter-too-high-before ≡ answers 8 0 0 0 filter-too-high-before
 unfolding opened
-filter-too-high = alike channels (filterCall filter-too-high-before) (answers 8 0 0 filter-too-high-before) tt
+filter-too-high = alike channels (filterCall filter-too-high-before) (answers 8 0 0 0 filter-too-high-before) tt
+
+-- a depth of 0 in cell 6 and a height out of range in cell 2: all depths are asked first
+abbrev make-depth-and-height-before : Channel
+make-depth-and-height-before =
+    channel 8 1000 20 0 10
+    (pos 300 ∷ pos 300 ∷ pos 300 ∷ pos 300 ∷ pos 300 ∷ pos 0 ∷ pos 300 ∷ pos 300 ∷ [])
+    (pos 0 ∷ pos 20000001 ∷ pos 0 ∷ pos 0 ∷ pos 0 ∷ pos 0 ∷ pos 0 ∷ pos 0 ∷ [])
+    (replicate 8 (pos 0))
+    (replicate 8 (pos 0))
+    (replicate 21 (pos 0))
+    (replicate 24 (pos 0))
+
+pub make-depth-and-height : makeCall make-depth-and-height-before ≡ answers 31 0 6 0 make-depth-and-height-before
+unfolding opened
+make-depth-and-height =
+    alike channels
+    (makeCall make-depth-and-height-before)
+    (answers 31 0 6 0 make-depth-and-height-before) tt
+
+-- a flux out of range in face 7 of the newest level and in face 2 of the middle one: the newest level is asked first
+abbrev step-two-levels-before : Channel
+step-two-levels-before =
+    channel 8 1000 20 0 10
+    (replicate 8 (pos 300))
+    (replicate 8 (pos 0))
+    (replicate 8 (pos 0))
+    (replicate 8 (pos 0))
+    (onto (pos 0 ∷ pos 0 ∷ pos 0 ∷ pos 0 ∷ pos 0 ∷ pos 0 ∷ pos 1000000000000001 ∷ [])
+    (onto (pos 0 ∷ minus 1000000000000001 ∷ pos 0 ∷ pos 0 ∷ pos 0 ∷ pos 0 ∷ pos 0 ∷ [])
+    (make-depth-and-height-before .Q)))
+    (replicate 24 (pos 0))
+
+pub step-two-levels :
+    stepCall step-two-levels-before (replicate 8 (pos 0))
+    ≡ answers 35 0 7 0 step-two-levels-before
+unfolding opened
+step-two-levels =
+    alike channels
+    (stepCall step-two-levels-before (replicate 8 (pos 0)))
+    (answers 35 0 7 0 step-two-levels-before) tt
+
+-- cells 3 and 6 fall dry in the prediction: the lower one is told
+abbrev step-dry-cells-before : Channel
+step-dry-cells-before =
+    channel 8 1000 1 0 10
+    (replicate 8 (pos 2))
+    (pos 0 ∷ pos 0 ∷ minus 1000 ∷ pos 0 ∷ pos 0 ∷ minus 1000 ∷ pos 0 ∷ pos 0 ∷ [])
+    (replicate 8 (pos 0))
+    (replicate 8 (pos 0))
+    (thrice (pos 0 ∷ pos 0 ∷ pos 1000000000 ∷ pos 0 ∷ pos 0 ∷ pos 1000000000 ∷ pos 0 ∷ []))
+    (replicate 24 (pos 0))
+
+pub step-dry-cells : stepCall step-dry-cells-before (replicate 8 (pos 0)) ≡ answers 4 0 3 0 step-dry-cells-before
+unfolding opened
+step-dry-cells =
+    alike channels
+    (stepCall step-dry-cells-before (replicate 8 (pos 0)))
+    (answers 4 0 3 0 step-dry-cells-before) tt
+
+-- a run of that channel accepts no step, and tells the cell of the step that was refused
+pub run-dry-cells : runCall step-dry-cells-before ≡ answers 4 0 3 0 step-dry-cells-before
+unfolding opened
+run-dry-cells = alike channels (runCall step-dry-cells-before) (answers 4 0 3 0 step-dry-cells-before) tt
 
 -- a run of at most two steps pauses with 16, for the channel is not complete
 abbrev pub run-paused-before : Channel
@@ -363,9 +426,9 @@ run-paused-after =
     minus 112997 ∷ [])
     (run-paused-before .F)))
 
-pub run-paused : runForCall 2 run-paused-before ≡ answers 16 0 2 run-paused-after
+pub run-paused : runForCall 2 run-paused-before ≡ answers 16 0 0 2 run-paused-after
 unfolding opened
-run-paused = alike channels (runForCall 2 run-paused-before) (answers 16 0 2 run-paused-after) tt
+run-paused = alike channels (runForCall 2 run-paused-before) (answers 16 0 0 2 run-paused-after) tt
 
 -- a run of three steps to the end
 abbrev run-complete-after : Channel
@@ -382,11 +445,11 @@ run-complete-after =
     minus 112385 ∷ [])
     (run-paused-after .F))
 
-pub run-complete : runCall run-paused-before ≡ answers 0 0 3 run-complete-after
+pub run-complete : runCall run-paused-before ≡ answers 0 0 0 3 run-complete-after
 unfolding opened
-run-complete = alike channels (runCall run-paused-before) (answers 0 0 3 run-complete-after) tt
+run-complete = alike channels (runCall run-paused-before) (answers 0 0 0 3 run-complete-after) tt
 
 -- taken up again and allowed more steps than are left, it completes, and leaves what the run of three steps left
-pub run-resumed : runForCall 9 run-paused-after ≡ answers 0 0 1 run-complete-after
+pub run-resumed : runForCall 9 run-paused-after ≡ answers 0 0 0 1 run-complete-after
 unfolding opened
-run-resumed = alike channels (runForCall 9 run-paused-after) (answers 0 0 1 run-complete-after) tt
+run-resumed = alike channels (runForCall 9 run-paused-after) (answers 0 0 0 1 run-complete-after) tt

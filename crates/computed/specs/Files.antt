@@ -1,6 +1,6 @@
 -- Whole calls over the bytes of a file, computed by the prover: written, read, printed, made, stepped, filtered, run.
 -- The numbers are the second program's: tests/compare/computed writes this file from tests/compare/calls.txt, and asks again in the tests.
--- A channel is its counts N, X, T, accepted, wanted and its rows h, e, u, V, Q, F; an answer is number, stage and count.
+-- A channel is its counts N, X, T, accepted, wanted and its rows h, e, u, V, Q, F; an answer is number, stage, place and count.
 use Prim.Native.Nat.{ℕ, _+_}
 use mathlib.Core.Path.{_≡_, refl}
 use mathlib.Core.List.{List, [], _∷_, _++_}
@@ -17,9 +17,9 @@ use Rattle.rule.specs.Opened.{opened}
 use Rattle.computed.specs.Channels.{run-paused-before}
 use Rattle.rule.specs.Computed.{answers, onto, thrice}
 
--- number, stage and count
-abbrev says : ℕ → ℕ → ℕ → Answer
-says number stage count = record { number = number; stage = stage; count = count }
+-- number, stage, place and count
+abbrev says : ℕ → ℕ → ℕ → ℕ → Answer
+says number stage place count = record { number = number; stage = stage; place = place; count = count }
 
 -- a file: its counts, where its rows stand, and its rows h, e, u, V, Q, F
 abbrev assembled : List ℕ → List ℕ → List ℕ → List ℕ → List ℕ → List ℕ → List ℕ → List ℕ → List ℕ
@@ -59,12 +59,12 @@ write-uneven-file =
     208 ∷ 224 ∷ 254 ∷ 255 ∷ 255 ∷ 255 ∷ 255 ∷ 255 ∷ 161 ∷ 11 ∷ 1 ∷ 0 ∷ 0 ∷ 0 ∷ 0 ∷ 0 ∷
     242 ∷ 250 ∷ 255 ∷ 255 ∷ 255 ∷ 255 ∷ 255 ∷ 255 ∷ 178 ∷ 70 ∷ 254 ∷ 255 ∷ 255 ∷ 255 ∷ 255 ∷ 255 ∷ []))
 
-pub write-uneven : writeCall run-paused-before (replicate 536 0) ≡ answers 0 0 0 write-uneven-file
+pub write-uneven : writeCall run-paused-before (replicate 536 0) ≡ answers 0 0 0 0 write-uneven-file
 unfolding opened
 write-uneven =
     alike (lists counts)
     (writeCall run-paused-before (replicate 536 0))
-    (answers 0 0 0 write-uneven-file) tt
+    (answers 0 0 0 0 write-uneven-file) tt
 
 -- and the channel of that file
 pub write-uneven-read : read write-uneven-file ≡ done run-paused-before
@@ -169,22 +169,22 @@ file-made-after =
 
 pub file-made :
     makeFile 8 500 50 4 file-made-depths file-made-heights file-made-velocities (replicate 536 0)
-    ≡ answers 0 0 0 file-made-after
+    ≡ answers 0 0 0 0 file-made-after
 unfolding opened
 file-made =
     alike (lists counts)
     (makeFile 8 500 50 4 file-made-depths file-made-heights file-made-velocities (replicate 536 0))
-    (answers 0 0 0 file-made-after) tt
+    (answers 0 0 0 0 file-made-after) tt
 
 -- a buffer that is one byte short is refused with 15, and left as it was
 pub file-no-room :
     makeFile 8 500 50 4 file-made-depths file-made-heights file-made-velocities (replicate 535 0)
-    ≡ answers 15 0 0 (replicate 535 0)
+    ≡ answers 15 0 0 0 (replicate 535 0)
 unfolding opened
 file-no-room =
     alike (lists counts)
     (makeFile 8 500 50 4 file-made-depths file-made-heights file-made-velocities (replicate 535 0))
-    (answers 15 0 0 (replicate 535 0)) tt
+    (answers 15 0 0 0 (replicate 535 0)) tt
 
 -- a dry cell (4) is told before a buffer of the wrong length (15)
 abbrev file-dry-no-room-heights : List ℕ
@@ -194,12 +194,12 @@ file-dry-no-room-heights =
 
 pub file-dry-no-room :
     makeFile 8 500 50 4 file-made-depths file-dry-no-room-heights file-made-velocities (replicate 535 0)
-    ≡ answers 4 0 0 (replicate 535 0)
+    ≡ answers 4 0 8 0 (replicate 535 0)
 unfolding opened
 file-dry-no-room =
     alike (lists counts)
     (makeFile 8 500 50 4 file-made-depths file-dry-no-room-heights file-made-velocities (replicate 535 0))
-    (answers 4 0 0 (replicate 535 0)) tt
+    (answers 4 0 8 0 (replicate 535 0)) tt
 
 -- the file that was made, after a step with a poured row
 abbrev file-stepped-poured : List ℕ
@@ -231,12 +231,12 @@ file-stepped-after =
     149 ∷ 68 ∷ 0 ∷ 0 ∷ 0 ∷ 0 ∷ 0 ∷ 0 ∷ 76 ∷ 238 ∷ 7 ∷ 0 ∷ 0 ∷ 0 ∷ 0 ∷ 0 ∷ [])
     (drop 344 file-made-after))
 
-pub file-stepped : stepFile file-made-after file-stepped-poured ≡ answers 0 0 3 file-stepped-after
+pub file-stepped : stepFile file-made-after file-stepped-poured ≡ answers 0 0 0 3 file-stepped-after
 unfolding opened
 file-stepped =
     alike (lists counts)
     (stepFile file-made-after file-stepped-poured)
-    (answers 0 0 3 file-stepped-after) tt
+    (answers 0 0 0 3 file-stepped-after) tt
 
 -- that file after a filter pass
 abbrev file-filtered-after : List ℕ
@@ -263,9 +263,9 @@ file-filtered-after =
     28 ∷ 209 ∷ 1 ∷ 0 ∷ 0 ∷ 0 ∷ 0 ∷ 0 ∷ 140 ∷ 158 ∷ 4 ∷ 0 ∷ 0 ∷ 0 ∷ 0 ∷ 0 ∷ [])
     (drop 344 file-made-after))
 
-pub file-filtered : filterFile file-stepped-after ≡ answers 0 0 0 file-filtered-after
+pub file-filtered : filterFile file-stepped-after ≡ answers 0 0 0 0 file-filtered-after
 unfolding opened
-file-filtered = alike (lists counts) (filterFile file-stepped-after) (answers 0 0 0 file-filtered-after) tt
+file-filtered = alike (lists counts) (filterFile file-stepped-after) (answers 0 0 0 0 file-filtered-after) tt
 
 -- and after two steps of a run, which pauses with 16: the channel is not complete
 abbrev file-paused-after : List ℕ
@@ -300,9 +300,9 @@ file-paused-after =
     8 ∷ 190 ∷ 1 ∷ 0 ∷ 0 ∷ 0 ∷ 0 ∷ 0 ∷ 146 ∷ 90 ∷ 4 ∷ 0 ∷ 0 ∷ 0 ∷ 0 ∷ 0 ∷ [])
     (drop 344 file-filtered-after)))
 
-pub file-paused : runForFile 2 file-filtered-after ≡ answers 16 0 2 file-paused-after
+pub file-paused : runForFile 2 file-filtered-after ≡ answers 16 0 0 2 file-paused-after
 unfolding opened
-file-paused = alike (lists counts) (runForFile 2 file-filtered-after) (answers 16 0 2 file-paused-after) tt
+file-paused = alike (lists counts) (runForFile 2 file-filtered-after) (answers 16 0 0 2 file-paused-after) tt
 
 -- and to the end
 abbrev file-complete-after : List ℕ
@@ -329,35 +329,35 @@ file-complete-after =
     78 ∷ 102 ∷ 1 ∷ 0 ∷ 0 ∷ 0 ∷ 0 ∷ 0 ∷ 220 ∷ 112 ∷ 3 ∷ 0 ∷ 0 ∷ 0 ∷ 0 ∷ 0 ∷ [])
     (drop 344 file-paused-after))
 
-pub file-complete : runForFile 1000 file-paused-after ≡ answers 0 0 1 file-complete-after
+pub file-complete : runForFile 1000 file-paused-after ≡ answers 0 0 0 1 file-complete-after
 unfolding opened
-file-complete = alike (lists counts) (runForFile 1000 file-paused-after) (answers 0 0 1 file-complete-after) tt
+file-complete = alike (lists counts) (runForFile 1000 file-paused-after) (answers 0 0 0 1 file-complete-after) tt
 
 -- a complete channel takes no step (11), and its file stays
-pub file-over : stepFile file-complete-after (replicate 32 0) ≡ answers 11 0 0 file-complete-after
+pub file-over : stepFile file-complete-after (replicate 32 0) ≡ answers 11 0 0 0 file-complete-after
 unfolding opened
 file-over =
     alike (lists counts)
     (stepFile file-complete-after (replicate 32 0))
-    (answers 11 0 0 file-complete-after) tt
+    (answers 11 0 0 0 file-complete-after) tt
 
 -- nor a filter pass
-pub file-filtered-no-more : filterFile file-complete-after ≡ answers 11 0 0 file-complete-after
+pub file-filtered-no-more : filterFile file-complete-after ≡ answers 11 0 0 0 file-complete-after
 unfolding opened
 file-filtered-no-more =
     alike (lists counts)
     (filterFile file-complete-after)
-    (answers 11 0 0 file-complete-after) tt
+    (answers 11 0 0 0 file-complete-after) tt
 
 -- a run of it is complete at once, with no step accepted
-pub file-already-complete : runForFile 5 file-complete-after ≡ answers 0 0 0 file-complete-after
+pub file-already-complete : runForFile 5 file-complete-after ≡ answers 0 0 0 0 file-complete-after
 unfolding opened
 file-already-complete =
     alike (lists counts)
     (runForFile 5 file-complete-after)
-    (answers 0 0 0 file-complete-after) tt
+    (answers 0 0 0 0 file-complete-after) tt
 
--- a poured amount beyond 1,000,000 is told (3) before a dry cell of the file (4)
+-- a poured amount beyond 1,000,000 is told (37) before a dry cell of the file (4)
 abbrev dry-file : List ℕ
 dry-file = replaced 80 (0 ∷ 0 ∷ 236 ∷ 255 ∷ []) file-made-after
 
@@ -366,12 +366,12 @@ file-poured-too-much-poured =
     0 ∷ 0 ∷ 0 ∷ 0 ∷ 0 ∷ 0 ∷ 0 ∷ 0 ∷ 0 ∷ 0 ∷ 0 ∷ 0 ∷ 0 ∷ 0 ∷ 0 ∷ 0 ∷
     0 ∷ 0 ∷ 0 ∷ 0 ∷ 0 ∷ 0 ∷ 0 ∷ 0 ∷ 0 ∷ 0 ∷ 0 ∷ 0 ∷ 65 ∷ 66 ∷ 15 ∷ 0 ∷ []
 
-pub file-poured-too-much : stepFile dry-file file-poured-too-much-poured ≡ answers 3 0 0 dry-file
+pub file-poured-too-much : stepFile dry-file file-poured-too-much-poured ≡ answers 37 0 8 0 dry-file
 unfolding opened
 file-poured-too-much =
     alike (lists counts)
     (stepFile dry-file file-poured-too-much-poured)
-    (answers 3 0 0 dry-file) tt
+    (answers 37 0 8 0 dry-file) tt
 
 -- that file with nothing wrong poured: the dry cell is told
 abbrev file-dry-poured : List ℕ
@@ -379,30 +379,30 @@ file-dry-poured =
     0 ∷ 0 ∷ 0 ∷ 0 ∷ 0 ∷ 0 ∷ 0 ∷ 0 ∷ 0 ∷ 0 ∷ 0 ∷ 0 ∷ 0 ∷ 0 ∷ 0 ∷ 0 ∷
     0 ∷ 0 ∷ 0 ∷ 0 ∷ 0 ∷ 0 ∷ 0 ∷ 0 ∷ 0 ∷ 0 ∷ 0 ∷ 0 ∷ 64 ∷ 66 ∷ 15 ∷ 0 ∷ []
 
-pub file-dry : stepFile dry-file file-dry-poured ≡ answers 4 0 0 dry-file
+pub file-dry : stepFile dry-file file-dry-poured ≡ answers 4 0 1 0 dry-file
 unfolding opened
-file-dry = alike (lists counts) (stepFile dry-file file-dry-poured) (answers 4 0 0 dry-file) tt
+file-dry = alike (lists counts) (stepFile dry-file file-dry-poured) (answers 4 0 1 0 dry-file) tt
 
 -- a run of that file is refused by the same number, and has accepted no step
-pub file-dry-run : runForFile 5 dry-file ≡ answers 4 0 0 dry-file
+pub file-dry-run : runForFile 5 dry-file ≡ answers 4 0 1 0 dry-file
 unfolding opened
-file-dry-run = alike (lists counts) (runForFile 5 dry-file) (answers 4 0 0 dry-file) tt
+file-dry-run = alike (lists counts) (runForFile 5 dry-file) (answers 4 0 1 0 dry-file) tt
 
 -- a poured row of too few entries (1) is told before rows that do not stand where they must (14)
 abbrev shifted-file : List ℕ
 shifted-file = replaced 24 (49 ∷ []) file-made-after
 
-pub file-poured-short : stepFile shifted-file (replicate 28 0) ≡ answers 1 0 0 shifted-file
+pub file-poured-short : stepFile shifted-file (replicate 28 0) ≡ answers 1 0 0 0 shifted-file
 unfolding opened
-file-poured-short = alike (lists counts) (stepFile shifted-file (replicate 28 0)) (answers 1 0 0 shifted-file) tt
+file-poured-short = alike (lists counts) (stepFile shifted-file (replicate 28 0)) (answers 1 0 0 0 shifted-file) tt
 
 -- the file that was made is one that every call takes
-pub file-checked : checkFile file-made-after ≡ says 0 0 0
+pub file-checked : checkFile file-made-after ≡ says 0 0 0 0
 unfolding opened
 file-checked = refl
 
 -- a file whose depths are said to start at byte 49
-pub file-shifted : checkFile shifted-file ≡ says 14 0 0
+pub file-shifted : checkFile shifted-file ≡ says 14 0 0 0
 unfolding opened
 file-shifted = refl
 
@@ -430,12 +430,12 @@ read-into-rows-before =
     (replicate 21 (pos 0))
     (replicate 24 (pos 0))
 
-pub read-into-rows : readCall read-into-rows-before write-uneven-file ≡ answers 0 0 0 run-paused-before
+pub read-into-rows : readCall read-into-rows-before write-uneven-file ≡ answers 0 0 0 0 run-paused-before
 unfolding opened
 read-into-rows =
     alike channels
     (readCall read-into-rows-before write-uneven-file)
-    (answers 0 0 0 run-paused-before) tt
+    (answers 0 0 0 0 run-paused-before) tt
 
 -- lent rows for 9 cells and a file of 8, it changes nothing
 abbrev read-into-longer-rows-before : Channel
@@ -450,9 +450,9 @@ read-into-longer-rows-before =
 
 pub read-into-longer-rows :
     readCall read-into-longer-rows-before write-uneven-file
-    ≡ answers 1 0 0 read-into-longer-rows-before
+    ≡ answers 1 0 0 0 read-into-longer-rows-before
 unfolding opened
 read-into-longer-rows =
     alike channels
     (readCall read-into-longer-rows-before write-uneven-file)
-    (answers 1 0 0 read-into-longer-rows-before) tt
+    (answers 1 0 0 0 read-into-longer-rows-before) tt

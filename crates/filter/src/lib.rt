@@ -4,7 +4,7 @@ ghost use Rattle.answers.specs.Stages.{leaves};
 ghost use mathlib.Core.List.{[]};
 ghost use Rattle.rule.specs.Counted.{counted};
 ghost use Rattle.rule.specs.Checks as checks;
-ghost use Rattle.rule.specs.Refusals.{numberOf};
+ghost use Rattle.rule.specs.Refusals.{faultOf};
 ghost use Rattle.rule.specs.Filter as rule;
 ghost use Rattle.rule.specs.Step.{tried};
 ghost use Rattle.rule.specs.Calls.{filterCall};
@@ -12,18 +12,32 @@ ghost use Rattle.motion.specs.Weights.{moving};
 ghost use Rattle.stage.specs.Trials.{trialOf};
 ghost use Rattle.filter.specs.Asked.{Smoothing};
 
-// The checks 1 to 5, then 11: 0, or the number of the first that fails.
-fn ready(c: rule::Counts, h: &[i64], e: &[i64], u: &[i64], v: &[i64], q: &[i64], f: &[i64]) -> u64
-    ensures { λ r. ⌜ r ≡ numberOf (checks.ready (counted c (now (h .entry)) (now (e .entry)) (now (u .entry)) (now (v .entry)) (now (q .entry)) (now (f .entry))) []) ⌝ }
+// The checks 1 to 5, then 11: the first that fails.
+fn ready(
+    c: rule::Counts,
+    h: &[i64],
+    e: &[i64],
+    u: &[i64],
+    v: &[i64],
+    q: &[i64],
+    f: &[i64],
+) -> rule::Fault
+    ensures { λ r. ⌜ r ≡ faultOf (checks.ready (counted c (now (h .entry)) (now (e .entry)) (now (u .entry)) (now (v .entry)) (now (q .entry)) (now (f .entry))) []) ⌝ }
 {
-    let number = checks::check(c, h, e, u, v, q, f, false, h);
-    if number != 0 {
-        return number;
+    let fault = checks::check(c, h, e, u, v, q, f, false, h);
+    if fault.number != 0 {
+        return fault;
     }
     if c.accepted == c.wanted {
-        return 11;
+        return rule::Fault {
+            number: 11,
+            place: 0,
+        };
     }
-    0
+    rule::Fault {
+        number: 0,
+        place: 0,
+    }
 }
 
 // The smoothed rows, the checks of a stage, and what is worked out from them.
@@ -48,13 +62,13 @@ pub fn filter(
 ) -> rule::Answer
     ensures { λ r. ⌜ leaves r (counted c (now (h .entry)) (now (e .exit)) (now (u .exit)) (now (v .exit)) (now (q .exit)) (now (f .exit))) ≡ filterCall (counted c (now (h .entry)) (now (e .entry)) (now (u .entry)) (now (v .entry)) (now (q .entry)) (now (f .entry))) ⌝ }
 {
-    let number = ready(c, h, e, u, v, q, f);
-    if number != 0 {
-        return answers::refused(number, 0);
+    let fault = ready(c, h, e, u, v, q, f);
+    if fault.number != 0 {
+        return answers::refused(fault, 0);
     }
     let trial = smoothed(c.n, c.x, h, e, v);
-    let met = trial.number;
-    if met != 0 {
+    let met = trial.fault;
+    if met.number != 0 {
         return answers::refused(met, 0);
     }
     let heights = trial.e;

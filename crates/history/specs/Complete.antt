@@ -6,12 +6,13 @@ use native.Mathlib.Omega.{arith}
 use borrow.Author.Tests.{eq-eqb, le-ltb}
 use Rattle.rule.specs.Rows.{Row}
 use Rattle.rule.specs.Channel.{Channel}
-use Rattle.rule.specs.Refusals.{refused, numberOf, number, complete, require, _>>=_}
+use Rattle.rule.specs.Refusals.{refused, numberOf, number, place, complete, require, _>>=_}
 use Rattle.rule.specs.Checks.{checked, isComplete, ready}
 use Rattle.rule.specs.Step.{step}
 use Rattle.rule.specs.Filter.{filter}
 use Rattle.rule.specs.Run.{runOn, runFor}
 use Rattle.rule.specs.Calls.{called, plainly, ended, ran, stepCall, filterCall, runCall, runForCall}
+use Rattle.places.specs.Faults.{plain}
 use Rattle.answers.specs.Stages.{refusal, acceptance, leaves}
 use Rattle.checks.specs.Numbers.{done-of}
 use Rattle.run_for.specs.Runs.{run-is}
@@ -22,12 +23,12 @@ module _ (c : Channel) (e : c .accepted ≡ c .wanted) where
   not-ready rows z = rw (done-of (checked c rows) z, eq-eqb (c .accepted) (c .wanted) e)
 
   -- a step with a row that passes the checks, and a filter pass, are refused with 11
-  pub step-complete : (s : Row) → numberOf (checked c (s ∷ [])) ≡ 0 → stepCall c s ≡ leaves (refusal 11 0) c
-  unfolding stepCall step called _>>=_ number
+  pub step-complete : (s : Row) → numberOf (checked c (s ∷ [])) ≡ 0 → stepCall c s ≡ leaves (refusal (plain 11) 0) c
+  unfolding stepCall step called _>>=_ number place
   step-complete s z = rw (not-ready (s ∷ []) z)
 
-  pub filter-complete : numberOf (checked c []) ≡ 0 → filterCall c ≡ leaves (refusal 11 0) c
-  unfolding filterCall filter plainly called _>>=_ number
+  pub filter-complete : numberOf (checked c []) ≡ 0 → filterCall c ≡ leaves (refusal (plain 11) 0) c
+  unfolding filterCall filter plainly called _>>=_ number place
   filter-complete z = rw (not-ready [] z)
 
   -- a run takes no step, and is complete

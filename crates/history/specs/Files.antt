@@ -11,7 +11,7 @@ use lib.ListN.{length}
 use Rattle.rule.specs.declared.Answer.{Answer}
 use Rattle.rule.specs.Rows.{Row, all, same, sum}
 use Rattle.rule.specs.Channel.{Channel}
-use Rattle.rule.specs.Refusals.{Refusal, Outcome, refused, done, numberOf, number, shape, counts, bufferLength}
+use Rattle.rule.specs.Refusals.{Refusal, Outcome, refused, done, numberOf, shape, counts, bufferLength}
 use Rattle.rule.specs.Checks.{checked}
 use Rattle.rule.specs.Make.{makeChecked}
 use Rattle.rule.specs.Layout.{lengthOf}
@@ -19,7 +19,7 @@ use Rattle.rule.specs.File.{edition, countOf, channelOf, fileOf, readWith}
 use Rattle.rule.specs.Calls.{Called, called, read, checkFile, makeFile, rowIn, holds, onFile, stepCall, filterCall, runForCall, stepFile, filterFile, runForFile}
 use Rattle.answers.specs.Stages.{refusal}
 use Rattle.little.specs.Numbers.{AreBytes}
-use Rattle.checks.specs.Numbers.{number-not-0, number-of-done}
+use Rattle.checks.specs.Numbers.{told, number-not-0, number-of-done}
 use Rattle.checks.specs.Chain.{came, came-by}
 use Rattle.checks.specs.Allowed.{allowed-of, unpoured}
 use Rattle.files.specs.Reading.{read-of}
@@ -60,7 +60,7 @@ record Moves (f : Channel → Called Channel) (z : Answer → ℤ) (k : Answer �
   pours : rule.poured c calls ≡ z (f c .answer)
   counts : rule.accepts c calls ≡ k (f c .answer)
 
-module _ (f : Channel → Called Channel) (z : Answer → ℤ) (k : Answer → ℕ) (moves : (c : Channel) → Moves f z k c) (none : (r : Refusal) (stage : ℕ) → (z (refusal (number r) stage) ≡ pos 0) × (k (refusal (number r) stage) ≡ 0)) (s : List ℕ) (fits : ℕ → Bool) (given : List Row) where
+module _ (f : Channel → Called Channel) (z : Answer → ℤ) (k : Answer → ℕ) (moves : (c : Channel) → Moves f z k c) (none : (r : Refusal) (stage : ℕ) → (z (refusal (told r) stage) ≡ pos 0) × (k (refusal (told r) stage) ≡ 0)) (s : List ℕ) (fits : ℕ → Bool) (given : List Row) where
   by-read : (m : Outcome Channel) → readWith fits given s ≡ m → Left s (onFile f s m .left) (z (onFile f s m .answer)) (k (onFile f s m .answer))
   unfolding onFile
   by-read (refused r stage) e =
@@ -117,7 +117,7 @@ run-for-moves most c =
     let t = run-for-taken most c in
     record { calls = still (c .N) k; is = t .is; pours = still-poured c (c .N) k; counts = t .all }
 
-none-poured : (s : Row) (r : Refusal) (stage : ℕ) → (amount (refusal (number r) stage) s ≡ pos 0) × (one (refusal (number r) stage) ≡ 0)
+none-poured : (s : Row) (r : Refusal) (stage : ℕ) → (amount (refusal (told r) stage) s ≡ pos 0) × (one (refusal (told r) stage) ≡ 0)
 unfolding amount one
 none-poured s r stage = rw (ne-eqb _ 0 (number-not-0 r)) (refl, refl)
 

@@ -11,6 +11,7 @@ use Rattle.rule.specs.declared.Answer.{Answer}
 use Rattle.rule.specs.Rows.{Row, sum}
 use Rattle.rule.specs.Channel.{Channel}
 use Rattle.rule.specs.Calls.{Called, stepCall, filterCall, runCall, runForCall}
+use Rattle.places.specs.Faults.{plain}
 use Rattle.answers.specs.Stages.{refusal, acceptance}
 use Rattle.run_for.specs.Runs.{nothing}
 use Rattle.water.specs.History.{Call, pour, smooth}
@@ -103,7 +104,7 @@ rowsOf (run o) = []
 rowsOf (run-for o) = []
 
 unfoldable pub atComplete : {c d : Channel} → Link c d → Answer
-atComplete (step o) = refusal 11 0
-atComplete (filter o) = refusal 11 0
+atComplete (step o) = refusal (plain 11) 0
+atComplete (filter o) = refusal (plain 11) 0
 atComplete (run o) = acceptance 0
 atComplete (run-for o) = acceptance 0

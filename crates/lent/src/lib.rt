@@ -1,5 +1,5 @@
-// The four calls over lent rows, for C, with numbers and pointers alone: each gives the answer's number, and its stage and count
-// by pointers. The comparison with the second program and the bench call them.
+// The four calls over lent rows, for C, with numbers and pointers alone: each gives the answer's number, and its stage, place and
+// count by pointers. The comparison with the second program and the bench call them.
 ghost use mathlib.Core.Path.{_≡_};
 ghost use Rattle.rule.specs.Channel.{channel};
 ghost use Rattle.rule.specs.Calls.{makeCall, stepCall, filterCall, runCall};
@@ -20,9 +20,10 @@ pub extern "C" fn lent_make(
     q: &mut [i64],
     f: &mut [i64],
     stage: &mut u64,
+    place: &mut u64,
     count: &mut u64,
 ) -> u64
-    ensures { λ r. ⌜ leaves (record { number = r; stage = now (stage .exit); count = now (count .exit) }) (channel n x t (now (accepted .exit)) wanted (now (h .entry)) (now (e .entry)) (now (u .entry)) (now (v .exit)) (now (q .exit)) (now (f .exit))) ≡ makeCall (channel n x t (now (accepted .entry)) wanted (now (h .entry)) (now (e .entry)) (now (u .entry)) (now (v .entry)) (now (q .entry)) (now (f .entry))) ⌝ }
+    ensures { λ r. ⌜ leaves (record { number = r; stage = now (stage .exit); place = now (place .exit); count = now (count .exit) }) (channel n x t (now (accepted .exit)) wanted (now (h .entry)) (now (e .entry)) (now (u .entry)) (now (v .exit)) (now (q .exit)) (now (f .exit))) ≡ makeCall (channel n x t (now (accepted .entry)) wanted (now (h .entry)) (now (e .entry)) (now (u .entry)) (now (v .entry)) (now (q .entry)) (now (f .entry))) ⌝ }
 {
     let c = rule::Counts {
         n,
@@ -34,6 +35,7 @@ pub extern "C" fn lent_make(
     let r = make::make(c, h, e, u, v, q, f);
     *accepted = r.accepted;
     *stage = r.answer.stage;
+    *place = r.answer.place;
     *count = r.answer.count;
     r.answer.number
 }
@@ -54,9 +56,10 @@ pub extern "C" fn lent_step(
     f: &mut [i64],
     s: &[i64],
     stage: &mut u64,
+    place: &mut u64,
     count: &mut u64,
 ) -> u64
-    ensures { λ r. ⌜ leaves (record { number = r; stage = now (stage .exit); count = now (count .exit) }) (channel n x t (now (accepted .exit)) wanted (now (h .entry)) (now (e .exit)) (now (u .exit)) (now (v .exit)) (now (q .exit)) (now (f .exit))) ≡ stepCall (channel n x t (now (accepted .entry)) wanted (now (h .entry)) (now (e .entry)) (now (u .entry)) (now (v .entry)) (now (q .entry)) (now (f .entry))) (now (s .entry)) ⌝ }
+    ensures { λ r. ⌜ leaves (record { number = r; stage = now (stage .exit); place = now (place .exit); count = now (count .exit) }) (channel n x t (now (accepted .exit)) wanted (now (h .entry)) (now (e .exit)) (now (u .exit)) (now (v .exit)) (now (q .exit)) (now (f .exit))) ≡ stepCall (channel n x t (now (accepted .entry)) wanted (now (h .entry)) (now (e .entry)) (now (u .entry)) (now (v .entry)) (now (q .entry)) (now (f .entry))) (now (s .entry)) ⌝ }
 {
     let c = rule::Counts {
         n,
@@ -68,6 +71,7 @@ pub extern "C" fn lent_step(
     let r = step::step(c, h, e, u, v, q, f, s);
     *accepted = r.accepted;
     *stage = r.answer.stage;
+    *place = r.answer.place;
     *count = r.answer.count;
     r.answer.number
 }
@@ -87,9 +91,10 @@ pub extern "C" fn lent_filter(
     q: &mut [i64],
     f: &mut [i64],
     stage: &mut u64,
+    place: &mut u64,
     count: &mut u64,
 ) -> u64
-    ensures { λ r. ⌜ leaves (record { number = r; stage = now (stage .exit); count = now (count .exit) }) (channel n x t accepted wanted (now (h .entry)) (now (e .exit)) (now (u .exit)) (now (v .exit)) (now (q .exit)) (now (f .exit))) ≡ filterCall (channel n x t accepted wanted (now (h .entry)) (now (e .entry)) (now (u .entry)) (now (v .entry)) (now (q .entry)) (now (f .entry))) ⌝ }
+    ensures { λ r. ⌜ leaves (record { number = r; stage = now (stage .exit); place = now (place .exit); count = now (count .exit) }) (channel n x t accepted wanted (now (h .entry)) (now (e .exit)) (now (u .exit)) (now (v .exit)) (now (q .exit)) (now (f .exit))) ≡ filterCall (channel n x t accepted wanted (now (h .entry)) (now (e .entry)) (now (u .entry)) (now (v .entry)) (now (q .entry)) (now (f .entry))) ⌝ }
 {
     let c = rule::Counts {
         n,
@@ -100,6 +105,7 @@ pub extern "C" fn lent_filter(
     };
     let r = filter::filter(c, h, e, u, v, q, f);
     *stage = r.stage;
+    *place = r.place;
     *count = r.count;
     r.number
 }
@@ -119,9 +125,10 @@ pub extern "C" fn lent_run(
     q: &mut [i64],
     f: &mut [i64],
     stage: &mut u64,
+    place: &mut u64,
     count: &mut u64,
 ) -> u64
-    ensures { λ r. ⌜ leaves (record { number = r; stage = now (stage .exit); count = now (count .exit) }) (channel n x t (now (accepted .exit)) wanted (now (h .entry)) (now (e .exit)) (now (u .exit)) (now (v .exit)) (now (q .exit)) (now (f .exit))) ≡ runCall (channel n x t (now (accepted .entry)) wanted (now (h .entry)) (now (e .entry)) (now (u .entry)) (now (v .entry)) (now (q .entry)) (now (f .entry))) ⌝ }
+    ensures { λ r. ⌜ leaves (record { number = r; stage = now (stage .exit); place = now (place .exit); count = now (count .exit) }) (channel n x t (now (accepted .exit)) wanted (now (h .entry)) (now (e .exit)) (now (u .exit)) (now (v .exit)) (now (q .exit)) (now (f .exit))) ≡ runCall (channel n x t (now (accepted .entry)) wanted (now (h .entry)) (now (e .entry)) (now (u .entry)) (now (v .entry)) (now (q .entry)) (now (f .entry))) ⌝ }
 {
     let c = rule::Counts {
         n,
@@ -133,6 +140,7 @@ pub extern "C" fn lent_run(
     let r = run::run(c, h, e, u, v, q, f);
     *accepted = r.accepted;
     *stage = r.answer.stage;
+    *place = r.answer.place;
     *count = r.answer.count;
     r.answer.number
 }

@@ -1,21 +1,22 @@
--- The channel file: what is printed of a file, by the reader's number. Assumes nothing.
+-- The channel file: what is printed of a file, by the reader's fault. Assumes nothing.
 use Prim.Native.Nat.{ℕ, _^_, _≤_, _<_}
 use native.Mathlib.Omega.{arith}
 use mathlib.Core.Path.{_≡_, refl, sym, ap, subst, _∙_}
 use mathlib.Core.Bool.{true, false}
 use mathlib.Core.List.{List, []}
 use lib.ListN.{length, take}
+use Rattle.rule.specs.declared.Fault.{Fault}
 use Rattle.rule.specs.Ranges.{mostCells, mostHeight}
 use Rattle.whole.specs.Row.{padded, Within}
 use Rattle.rule.specs.Rows.{Row}
-use Rattle.rule.specs.Refusals.{Outcome, refused, done, numberOf}
+use Rattle.rule.specs.Refusals.{Outcome, refused, done, numberOf, faultOf}
 use Rattle.rule.specs.Bytes.{countAt, rowAt}
 use Rattle.rule.specs.Layout.{widths, startOf, lengthOf}
 use Rattle.rule.specs.File.{edition, leastLength, countOf, channelOf, readWith}
 use Rattle.rule.specs.Channel.{lengths}
 use Rattle.rule.specs.Line.{line, channelLine}
 use Rattle.rule.specs.Calls.{read, printFile}
-use Rattle.checks.specs.Numbers.{number-within}
+use Rattle.checks.specs.Numbers.{number-within, numbered}
 use Rattle.checks.specs.Allowed.{allowed-of}
 use Rattle.little.specs.Written.{written, length-written}
 use Rattle.text.specs.Lines.{lineOf, refusedOf, Printable, channel-line, refused-line}
@@ -24,26 +25,26 @@ use Rattle.form.specs.Reader.{fitsIn}
 use Rattle.opened.specs.Held.{four-cut}
 use Rattle.opened.specs.Fitting.{held-row}
 
--- every number is at most 15
-outcome-most : {A : Type 0} (m : Outcome A) → numberOf m ≤ 15
+-- every number is at most 37
+outcome-most : {A : Type 0} (m : Outcome A) → numberOf m ≤ 37
 unfolding numberOf
 outcome-most (refused r k) = number-within r .1
 outcome-most (done a) = omega arith
 
--- the reader's number k for the bytes s, as the code has it
-module _ (s : List ℕ) (k : ℕ) (e : k ≡ numberOf (readWith (fitsIn false s) [] s)) where
-  pub is-number : k ≡ numberOf (read s)
-  is-number = e ∙ ap numberOf (plain-read s s)
+-- the reader's fault f for the bytes s, as the code has it
+module _ (s : List ℕ) (f : Fault) (e : f ≡ faultOf (readWith (fitsIn false s) [] s)) where
+  pub is-number : f .number ≡ numberOf (read s)
+  is-number = numbered e ∙ ap numberOf (plain-read s s)
 
-  pub at-most : k ≤ 15
+  pub at-most : f .number ≤ 37
   at-most = omega (arith, is-number, outcome-most (read s))
 
-  -- 1 to 15
-  pub refused-is : 1 ≤ k → refusedOf k ≡ printFile s
+  -- 1 to 37
+  pub refused-is : 1 ≤ f .number → refusedOf (f .number) ≡ printFile s
   unfolding printFile read
   refused-is h =
-      let r = read-refused (fitsIn false s) [] s k e (λ z. omega arith) in
-      ap refusedOf (r .numbered) ∙ refused-line (r .why) 0 ∙ ap line (sym (r .is) ∙ plain-read s s)
+      let r = read-refused (fitsIn false s) [] s f e (λ z. omega arith) in
+      ap refusedOf (numbered (r .tells)) ∙ refused-line (r .why) 0 ∙ ap line (sym (r .is) ∙ plain-read s s)
 
 -- a file that the reader takes
 module _ (s : List ℕ) (z : numberOf (read s) ≡ 0) where

@@ -21,13 +21,13 @@ fn held_line(s: &[u8], d: &mut [u8]) -> usize
     text::channel_line(d, n, accepted, wanted, &e[..cells])
 }
 
-// What the printing program prints of the bytes s: 1 to 15 are refusals, and 0 is none.
+// What the printing program prints of the bytes s: 1 to 37 are refusals, and 0 is none.
 pub fn line(s: &[u8], d: &mut [u8; 64]) -> usize
     ensures { λ r. ⌜ (r ≡ length (printFile (now (s .entry)))) × (now (d .exit) ≡ written (now (d .entry)) 0 (printFile (now (s .entry)))) × (r ≤ 64) ⌝ }
 {
-    let number = reader::check(s, false, s);
+    let number = reader::check(s, false, s).number;
     match number {
-        1..=15 => text::refused_line(d, number),
+        1..=37 => text::refused_line(d, number),
         _ => held_line(s, d),
     }
 }

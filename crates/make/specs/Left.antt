@@ -3,14 +3,13 @@ use Prim.Native.Nat.{ℕ, _-_}
 use mathlib.Core.Path.{_≡_, refl, sym, _∙_, ap}
 use mathlib.Core.Bool.{Bool, true, false, _&&_}
 use native.Mathlib.Omega.{arith}
-use lib.Dec.{lit≤}
 use lib.ListN.{length}
 use Rattle.whole.specs.Row.{length-tab}
 use Rattle.rule.specs.Rounded.{roundedFloat}
 use Rattle.rule.specs.Rows.{Row}
 use Rattle.rule.specs.Ranges.{cellsAllowed}
 use Rattle.rule.specs.Channel.{Channel, moved, channel, filled, renewed}
-use Rattle.rule.specs.Refusals.{shape, speed, flux, number, Outcome, refused, done, numberOf, _>>=_, require}
+use Rattle.rule.specs.Refusals.{shape, speed, flux, number, Outcome, refused, done, faultOf, _>>=_, require}
 use Rattle.rule.specs.Flux.{fluxes}
 use Rattle.rule.specs.Acceleration.{accelerations}
 use Rattle.rule.specs.Make.{makeChecked, make, reducedVelocities}
@@ -19,18 +18,19 @@ use Rattle.rows.specs.All.{map-tab}
 use Rattle.rows.specs.Firsts.{firsts, firsts-padded}
 use Rattle.flux.specs.Faces.{length-fluxes}
 use Rattle.dispersion.specs.Sizes.{length-accelerations}
-use Rattle.checks.specs.Numbers.{Outside, outside-met, refuses-then, refuses-test, Early}
-use Rattle.checks.specs.Met.{make-checked-met}
+use Rattle.places.specs.Faults.{plain}
+use Rattle.checks.specs.Numbers.{numbered, Outside, refuses-then, refuses-test, Early}
+use Rattle.checks.specs.Met.{make-checked-outside}
 use Rattle.answers.specs.Stages.{leaves, early, acceptance, refused-call, accepted-call, unfit-call}
 use Rattle.store.specs.Levels.{renewed-all}
 use Rattle.work_out.specs.declared.Made.{Made}
-use Rattle.work_out.specs.Made.{madeOf, made-number, rowsOf, rows-kept, whole-of}
+use Rattle.work_out.specs.Made.{madeOf, made-fault, rowsOf, rows-kept, whole-of}
 
 -- a refusal of make has stage 0
 make-outside : (n X T wanted : ℕ) (h e u : Row) → Outside (make n X T wanted h e u)
 unfolding make reducedVelocities fluxes number
 make-outside n X T wanted h e u =
-    refuses-then Early (makeChecked n X T wanted h e u) _ (outside-met 1 5 (makeChecked n X T wanted h e u) (lit≤ tt) (make-checked-met n X T wanted h e u))
+    refuses-then Early (makeChecked n X T wanted h e u) _ (make-checked-outside n X T wanted h e u)
     (λ _. refuses-then Early (reducedVelocities n X h u) _ (refuses-test Early _ speed _ refl tt)
     (λ v. refuses-then Early (fluxes n X h e u) _ (refuses-test Early _ flux _ refl tt) (λ Q. tt)))
 
@@ -60,21 +60,21 @@ module _ (lent : Channel) where
   unfolding makeCall
   call-is = refl
 
-  pub refused-1 : cellsAllowed (lent .N) && fit lent (lent .N) ≡ false → leaves (early 1) lent ≡ makeCall lent
+  pub refused-1 : cellsAllowed (lent .N) && fit lent (lent .N) ≡ false → leaves (early (plain 1)) lent ≡ makeCall lent
   unfolding makeCall plainly
   refused-1 z = unfit-call lent (λ _. 0) (λ c. c) (cellsAllowed (lent .N)) (fit lent (lent .N)) made (make-unfit (lent .N) (lent .X) (lent .T) (lent .wanted) (lent .h) (lent .e) (lent .u)) z
 
   module _ (fitting : fit lent (lent .N) ≡ true) (r : Made) (is : r ≡ madeOf (lent .N) made) where
-    number-is : r .number ≡ numberOf made
-    number-is = ap (λ (t : Made). t .number) is ∙ made-number (lent .N) made
+    fault-is : r .fault ≡ faultOf made
+    fault-is = ap (λ (t : Made). t .fault) is ∙ made-fault (lent .N) made
 
     past-1 : plainly lent made ≡ makeCall lent
     past-1 = sym (fits lent (fit lent (lent .N)) made fitting) ∙ call-is
 
-    pub refused-by : (r .number ≡ 0 → ⊥) → leaves (early (r .number)) lent ≡ makeCall lent
+    pub refused-by : (r .fault .number ≡ 0 → ⊥) → leaves (early (r .fault)) lent ≡ makeCall lent
     unfolding plainly
     refused-by z =
-        refused-call lent (λ _. 0) (λ c. c) (r .number) made (make-outside (lent .N) (lent .X) (lent .T) (lent .wanted) (lent .h) (lent .e) (lent .u)) number-is z ∙ past-1
+        refused-call lent (λ _. 0) (λ c. c) (r .fault) made (make-outside (lent .N) (lent .X) (lent .T) (lent .wanted) (lent .h) (lent .e) (lent .u)) fault-is z ∙ past-1
 
     -- with all rows stored
     abbrev after : Channel
@@ -82,7 +82,7 @@ module _ (lent : Channel) where
         moved lent 0 (lent .e) (lent .u) (renewed (lent .N) (firsts (lent .N) (r .v)) (lent .v)) (filled (firsts (lent .N - 1) (r .q)))
         (filled (firsts (lent .N) (r .f)))
 
-    pub stored : r .number ≡ 0 → length (lent .v) ≡ lent .N → leaves (acceptance 0) after ≡ makeCall lent
+    pub stored : r .fault .number ≡ 0 → length (lent .v) ≡ lent .N → leaves (acceptance 0) after ≡ makeCall lent
     unfolding plainly
     stored z v-long =
         let n = lent .N in
@@ -92,7 +92,7 @@ module _ (lent : Channel) where
         let h = lent .h in
         let e = lent .e in
         let u = lent .u in
-        let w = whole-of n X T wanted h e u (sym number-is ∙ z) in
+        let w = whole-of n X T wanted h e u (sym (numbered fault-is) ∙ z) in
         let k : r ≡ rowsOf n (w .v) (w .Q) (accelerations n X e u) = is ∙ sym (rows-kept n X T wanted h e u w) in
         let v-is : renewed n (firsts n (r .v)) (lent .v) ≡ w .v =
         renewed-all n (firsts n (r .v)) (lent .v) v-long

@@ -17,15 +17,20 @@ pub fn make(
     ensures { λ r. ⌜ left c r (now (h .entry)) (now (e .entry)) (now (u .entry)) (now (v .exit)) (now (q .exit)) (now (f .exit)) ≡ makeCall (counted c (now (h .entry)) (now (e .entry)) (now (u .entry)) (now (v .entry)) (now (q .entry)) (now (f .entry))) ⌝ }
 {
     if !checks::shaped(c.n, h, e, u, v, q, f) {
+        let unfit = rule::Fault {
+            number: 1,
+            place: 0,
+        };
         return rule::Left {
-            answer: answers::refused(1, 0),
+            answer: answers::refused(unfit, 0),
             accepted: c.accepted,
         };
     }
     let made = work_out::work_out(c, h, e, u);
-    if made.number != 0 {
+    let fault = made.fault;
+    if fault.number != 0 {
         return rule::Left {
-            answer: answers::refused(made.number, 0),
+            answer: answers::refused(fault, 0),
             accepted: c.accepted,
         };
     }

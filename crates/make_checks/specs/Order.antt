@@ -4,24 +4,26 @@ use mathlib.Core.Path.{_≡_, refl, sym, _∙_, ap}
 use mathlib.Core.Bool.{Bool, true, false, cond, _&&_}
 use mathlib.Core.List.{List}
 use borrow.Author.Tests.{ne-eqb, eq-eqb, eqb-true}
-use lib.Dec.{eqb, lit≤}
+use lib.Dec.{eqb}
 use lib.ListN.{length}
+use Rattle.rule.specs.declared.Fault.{Fault}
 use Rattle.rule.specs.Rows.{Row}
 use Rattle.rule.specs.Ranges.{cellsAllowed}
 use Rattle.rule.specs.Channel.{Channel}
-use Rattle.rule.specs.Refusals.{Outcome, refused, done, number, numberOf, _>>=_, require, bufferLength}
+use Rattle.rule.specs.Refusals.{Outcome, refused, done, number, place, numberOf, placeOf, faultOf, _>>=_, require, bufferLength}
 use Rattle.rule.specs.Make.{makeChecked, make}
 use Rattle.rule.specs.Layout.{lengthOf}
 use Rattle.rule.specs.File.{edition, fileOf}
 use Rattle.rule.specs.Calls.{Called, called, rowIn, holds, makeFile}
-use Rattle.checks.specs.Numbers.{number-not-0, done-of, regroup, both-done, Outside, outside-met, refuses-then, refuses-last, passed-last, Early}
-use Rattle.checks.specs.Met.{make-checked-met}
+use Rattle.places.specs.Faults.{plain, none}
+use Rattle.checks.specs.Numbers.{numbered, number-not-0, done-of, regroup, both-done, Outside, refuses-then, refuses-last, passed-last, Early}
+use Rattle.checks.specs.Met.{make-checked-outside}
 use Rattle.checks.specs.Made.{Makeable, makeable-of}
 use Rattle.answers.specs.Stages.{early, refused-first, unfit-call, leavesBytes}
 
--- the first of two numbers that is not 0
-unfoldable pub firstOf : ℕ → ℕ → ℕ
-firstOf one other = cond (eqb one 0) other one
+-- the first of two faults whose number is not 0
+unfoldable pub firstOf : Fault → Fault → Fault
+firstOf one other = cond (eqb (one .number) 0) other one
 
 -- 15: a buffer of `room` bytes, for n cells
 unfoldable pub bufferChecked : ℕ → ℕ → Outcome (Unit {0})
@@ -39,22 +41,22 @@ filed s m = called s (λ _. 0) fileOf m
 unfoldable pub makeRows : ℕ → ℕ → ℕ → ℕ → Row → Row → Row → List ℕ → Called (List ℕ)
 makeRows n X T wanted h e u s = filed s (tested n X T wanted h e u (length s) >>= λ _. make n X T wanted h e u)
 
--- the number of the first that is refused is the number of both
-pub first-is : {B : Type 0} (m : Outcome (Unit {0})) (f : Unit {0} → Outcome B) (one other : ℕ) → one ≡ numberOf m → other ≡ numberOf (f tt) → firstOf one other ≡ numberOf (m >>= f)
-unfolding _>>=_ numberOf firstOf
-first-is (refused r k) f one other p q = rw (ne-eqb one 0 (λ z. number-not-0 r (sym p ∙ z))) p
+-- the fault of the first that is refused is the fault of both
+pub first-is : {B : Type 0} (m : Outcome (Unit {0})) (f : Unit {0} → Outcome B) (one other : Fault) → one ≡ faultOf m → other ≡ faultOf (f tt) → firstOf one other ≡ faultOf (m >>= f)
+unfolding _>>=_ numberOf placeOf firstOf
+first-is (refused r k) f one other p q = rw (ne-eqb (one .number) 0 (λ z. number-not-0 r (sym (numbered p) ∙ z))) p
 first-is (done a) f one other p q = rw p q
 
-pub buffer-15 : (n room : ℕ) → (room ≡ lengthOf edition n → ⊥) → 15 ≡ numberOf (bufferChecked n room)
-unfolding bufferChecked require numberOf number
+pub buffer-15 : (n room : ℕ) → (room ≡ lengthOf edition n → ⊥) → plain 15 ≡ faultOf (bufferChecked n room)
+unfolding bufferChecked require numberOf placeOf number place
 buffer-15 n room z = rw (ne-eqb room (lengthOf edition n) z)
 
-pub buffer-0 : (n room : ℕ) → room ≡ lengthOf edition n → 0 ≡ numberOf (bufferChecked n room)
-unfolding bufferChecked require numberOf
+pub buffer-0 : (n room : ℕ) → room ≡ lengthOf edition n → none ≡ faultOf (bufferChecked n room)
+unfolding bufferChecked require numberOf placeOf
 buffer-0 n room z = rw (eq-eqb room (lengthOf edition n) z)
 
 module _ (n X T wanted : ℕ) (h e u : Row) where
-  pub tested-is : (room one other : ℕ) → one ≡ numberOf (makeChecked n X T wanted h e u) → other ≡ numberOf (bufferChecked n room) → firstOf one other ≡ numberOf (tested n X T wanted h e u room)
+  pub tested-is : (room : ℕ) (one other : Fault) → one ≡ faultOf (makeChecked n X T wanted h e u) → other ≡ faultOf (bufferChecked n room) → firstOf one other ≡ faultOf (tested n X T wanted h e u room)
   unfolding tested
   tested-is room one other p q = first-is (makeChecked n X T wanted h e u) (λ _. bufferChecked n room) one other p q
 
@@ -62,7 +64,7 @@ module _ (n X T wanted : ℕ) (h e u : Row) where
   tested-outside : (room : ℕ) → Outside (tested n X T wanted h e u room)
   unfolding tested bufferChecked number
   tested-outside room =
-      refuses-then Early (makeChecked n X T wanted h e u) _ (outside-met 1 5 (makeChecked n X T wanted h e u) (lit≤ tt) (make-checked-met n X T wanted h e u))
+      refuses-then Early (makeChecked n X T wanted h e u) _ (make-checked-outside n X T wanted h e u)
       (λ _. refuses-last Early (eqb room (lengthOf edition n)) bufferLength refl)
 
   -- what the tests let pass
@@ -74,7 +76,7 @@ module _ (n X T wanted : ℕ) (h e u : Row) where
 
   module _ (s : List ℕ) where
     -- a test refuses
-    pub rows-refused : (k : ℕ) → k ≡ numberOf (tested n X T wanted h e u (length s)) → (k ≡ 0 → ⊥) → leavesBytes (early k) s ≡ makeRows n X T wanted h e u s
+    pub rows-refused : (k : Fault) → k ≡ faultOf (tested n X T wanted h e u (length s)) → (k .number ≡ 0 → ⊥) → leavesBytes (early k) s ≡ makeRows n X T wanted h e u s
     unfolding makeRows filed
     rows-refused k p z = refused-first s (λ _. 0) fileOf k (tested n X T wanted h e u (length s)) _ (tested-outside (length s)) p z
 
@@ -88,7 +90,7 @@ module _ (n X T wanted : ℕ) (h e u s : List ℕ) where
   abbrev allHold : Bool
   allHold = holds h n && holds e n && holds u n
 
-  pub file-unfit : cellsAllowed n && allHold ≡ false → leavesBytes (early 1) s ≡ makeFile n X T wanted h e u s
+  pub file-unfit : cellsAllowed n && allHold ≡ false → leavesBytes (early (plain 1)) s ≡ makeFile n X T wanted h e u s
   unfolding makeFile makeChecked require _>>=_
   file-unfit z = unfit-call s (λ _. 0) fileOf (cellsAllowed n) allHold _ (λ i. rw i) z
 

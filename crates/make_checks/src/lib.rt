@@ -3,7 +3,7 @@ ghost use mathlib.Core.Path.{_≡_};
 ghost use mathlib.Core.Bool.{_&&_};
 ghost use Prim.Native.Nat.{_≤_};
 ghost use Rattle.rule.specs.Ranges.{cellsAllowed, mostCells};
-ghost use Rattle.rule.specs.Refusals.{numberOf};
+ghost use Rattle.rule.specs.Refusals.{faultOf};
 ghost use Rattle.rule.specs.Calls.{holds};
 ghost use Rattle.make_checks.specs.Order.{firstOf, bufferChecked, tested};
 
@@ -20,30 +20,36 @@ pub fn shape_passes(n: u64, h: &[u8], e: &[u8], u: &[u8]) -> bool
 }
 
 // 15, or 0 where `room` is the length of a file of n cells.
-fn check_buffer(n: usize, room: usize) -> u64
+fn check_buffer(n: usize, room: usize) -> rule::Fault
     requires { ⌜ (1 ≤ n) × (n ≤ mostCells) ⌝ }
-    ensures { λ r. ⌜ r ≡ numberOf (bufferChecked n room) ⌝ }
+    ensures { λ r. ⌜ r ≡ faultOf (bufferChecked n room) ⌝ }
 {
     if room != layout::length_of(layout::EDITION, n) {
-        return 15;
+        return rule::Fault {
+            number: 15,
+            place: 0,
+        };
     }
-    0
+    rule::Fault {
+        number: 0,
+        place: 0,
+    }
 }
 
-// The first of two numbers that is a refusal's, or 0.
-fn first(one: u64, other: u64) -> u64
+// The first of two faults that is a refusal's, or none.
+fn first(one: rule::Fault, other: rule::Fault) -> rule::Fault
     ensures { λ r. ⌜ r ≡ firstOf one other ⌝ }
 {
-    if one != 0 {
+    if one.number != 0 {
         return one;
     }
     other
 }
 
-// 1 to 5, then 15: 0, or the number of the first that fails.
-pub fn check(c: rule::Counts, h: &[i64], e: &[i64], u: &[i64], room: usize) -> u64
+// 1 to 5, then 15: none, or the fault of the first that fails.
+pub fn check(c: rule::Counts, h: &[i64], e: &[i64], u: &[i64], room: usize) -> rule::Fault
     requires { ⌜ (1 ≤ c .n) × (c .n ≤ mostCells) ⌝ }
-    ensures { λ r. ⌜ r ≡ numberOf (tested (c .n) (c .x) (c .t) (c .wanted) (now (h .entry)) (now (e .entry)) (now (u .entry)) room) ⌝ }
+    ensures { λ r. ⌜ r ≡ faultOf (tested (c .n) (c .x) (c .t) (c .wanted) (now (h .entry)) (now (e .entry)) (now (u .entry)) room) ⌝ }
 {
     let input = checks::check_made(c, h, e, u);
     let length = check_buffer(c.n, room);

@@ -20,7 +20,7 @@ use Rattle.checks.specs.Tests.{both}
 use Rattle.checks.specs.Numbers.{number-not-0}
 use Rattle.checks.specs.Facts.{cells-few, lengths-pass, LengthsOf}
 use Rattle.checks.specs.Made.{Makeable}
-use Rattle.answers.specs.Stages.{leaves, leavesBytes}
+use Rattle.answers.specs.Stages.{leaves, leavesBytes, acceptance}
 use Rattle.form.specs.Reader.{fitsIn}
 use Rattle.opened.specs.Held.{poured-is, four-cut}
 use Rattle.water.specs.Starts.{make-passes}
@@ -62,7 +62,7 @@ module _ (lent c : Channel) (r : Answer) (s : List ℕ) where
   unfolding plainly filed called
   files (refused why k) after p z q = absurd (number-not-0 why (sym (ap (λ (t : Called Channel). t .answer .number) p) ∙ z))
   files (done b) after p z q =
-      (λ i. leavesBytes (p i .answer) (q i)) ∙ ap (λ (t : Called Channel). leavesBytes (record { number = 0; stage = 0; count = 0 }) (fileOf (t .left))) p
+      (λ i. leavesBytes (p i .answer) (q i)) ∙ ap (λ (t : Called Channel). leavesBytes (acceptance 0) (fileOf (t .left))) p
 
 -- of make, on lent rows of the lengths that it asks
 module _ (lent c : Channel) (r : Answer) (s : List ℕ) (is : leaves r c ≡ makeCall lent) (long : LengthsOf lent) where

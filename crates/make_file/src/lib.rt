@@ -77,9 +77,9 @@ fn make_rows(c: rule::Counts, h: &[i64], e: &[i64], u: &[i64], file: &mut [u8]) 
     requires { ⌜ (1 ≤ c .n) × (c .n ≤ mostCells) ⌝ }
     ensures { λ r. ⌜ leavesBytes r (now (file .exit)) ≡ makeRows (c .n) (c .x) (c .t) (c .wanted) (now (h .entry)) (now (e .entry)) (now (u .entry)) (now (file .entry)) ⌝ }
 {
-    let number = make_checks::check(c, h, e, u, file.len());
-    if number != 0 {
-        return answers::refused(number, 0);
+    let fault = make_checks::check(c, h, e, u, file.len());
+    if fault.number != 0 {
+        return answers::refused(fault, 0);
     }
     make_fitting(c, h, e, u, file)
 }
@@ -99,7 +99,11 @@ pub fn make(
     ensures { λ r. ⌜ leavesBytes r (now (file .exit)) ≡ makeFile n x t wanted (now (h .entry)) (now (e .entry)) (now (u .entry)) (now (file .entry)) ⌝ }
 {
     if !make_checks::shape_passes(n, h, e, u) {
-        return answers::refused(1, 0);
+        let unfit = rule::Fault {
+            number: 1,
+            place: 0,
+        };
+        return answers::refused(unfit, 0);
     }
     let cells = n as usize;
     let depths = little::read_row4(h, 0, cells);

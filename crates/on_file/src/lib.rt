@@ -47,7 +47,7 @@ pub fn run(file: &mut [u8]) -> usize
     ensures { λ r. ⌜ (take r (now (file .exit)) ≡ runFile (now (file .entry))) × ((r ≡ length (runFile (now (file .entry)))) × (now (file .exit) ≡ inBuffer (now (file .entry)) (runFile (now (file .entry))))) ⌝ }
     ensures { λ _. ⌜ AreBytes (now (file .entry)) ⌝ }
 {
-    let number = reader::check(file, false, file);
+    let number = reader::check(file, false, file).number;
     if number != 0 {
         return 0;
     }

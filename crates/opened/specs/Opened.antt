@@ -1,22 +1,23 @@
--- The channel file: what the reader's number says. At 0 the file is right and holds a channel that passes the checks; any other is a refusal's, at stage 0. Assumes nothing.
+-- The channel file: what the reader's fault says. At number 0 the file is right and holds a channel that passes the checks; any other is a refusal's, at stage 0. Assumes nothing.
 use Prim.Native.Nat.{ℕ, _≤_}
 use mathlib.Core.Path.{_≡_, refl, sym, _∙_, ap}
 use mathlib.Core.Bool.{Bool, true, false, not, _&&_}
 use mathlib.Core.List.{List, [], _∷_}
 use borrow.Author.Tests.{not-true, eqb-true, ltb-false}
-use lib.Dec.{ltb, eqb, lit≤}
+use lib.Dec.{ltb, eqb}
 use lib.ListN.{length}
+use Rattle.rule.specs.declared.Fault.{Fault}
 use Rattle.rule.specs.Rows.{Row, same}
 use Rattle.rule.specs.Ranges.{leastCells, mostCells, cellsAllowed}
 use Rattle.rule.specs.Channel.{Channel}
-use Rattle.rule.specs.Refusals.{Refusal, Outcome, done, numberOf, number, _>>=_, require, shape, fileLength, fileEdition, fileOffsets}
+use Rattle.rule.specs.Refusals.{Refusal, Outcome, done, numberOf, faultOf, number, _>>=_, require, shape, fileLength, fileEdition, fileOffsets}
 use Rattle.rule.specs.Checks.{long, allowed, checked, shaped}
 use Rattle.rule.specs.Layout.{offsets, lengthOf}
 use Rattle.rule.specs.File.{edition, leastLength, countOf, offsetsIn, channelOf, readWith}
 use Rattle.rule.specs.Calls.{read, rowIn, holds}
 use Rattle.checks.specs.Tests.{both, same-is}
-use Rattle.checks.specs.Numbers.{both-done, passed, passed-last, passes, after-done, done-of, Outside, outside-met, refuses-then, refuses-test, Refused, refused-of, Early}
-use Rattle.checks.specs.Met.{allowed-met}
+use Rattle.checks.specs.Numbers.{both-done, passed, passed-last, passes, after-done, done-of, numbered, Outside, refuses-then, refuses-test, Refused, refused-of, Early}
+use Rattle.checks.specs.Met.{allowed-outside}
 use Rattle.checks.specs.Facts.{cells-few}
 use Rattle.form.specs.Reader.{fitsIn, headTests, formTests, shapePasses, bodyTests, read-is}
 use Rattle.opened.specs.Held.{shaped-held}
@@ -93,7 +94,7 @@ module _ (fits : ℕ → Bool) (poured : List Row) (s : List ℕ) where
         placed = form .1;
         fitting = c .1;
         poured-long = r .1;
-        checked-0 = passes (shaped (channelOf s) poured) shape (λ _. allowed (channelOf s) poured) (shaped-held s poured (c .0) (r .1)) ∙ f .1;
+        checked-0 = numbered (passes (shaped (channelOf s) poured) shape (λ _. allowed (channelOf s) poured) (shaped-held s poured (c .0) (r .1))) ∙ f .1;
       }
 
   -- a refusal of a reader has stage 0
@@ -105,8 +106,8 @@ module _ (fits : ℕ → Bool) (poured : List Row) (s : List ℕ) where
       (refuses-test Early _ shape _ refl
       (refuses-test Early _ fileLength _ refl
       (refuses-test Early _ fileOffsets _ refl
-      (refuses-then Early (allowed (channelOf s) poured) _ (outside-met 1 5 (allowed (channelOf s) poured) (lit≤ tt) (allowed-met (channelOf s) poured)) (λ _. tt))))))
+      (refuses-then Early (allowed (channelOf s) poured) _ (allowed-outside (channelOf s) poured) (λ _. tt))))))
 
   -- from any other
-  pub read-refused : (k : ℕ) → k ≡ numberOf (readWith fits poured s) → (k ≡ 0 → ⊥) → Refused Early k (readWith fits poured s)
-  read-refused k e z = refused-of Early k (readWith fits poured s) read-outside e z
+  pub read-refused : (f : Fault) → f ≡ faultOf (readWith fits poured s) → (f .number ≡ 0 → ⊥) → Refused Early f (readWith fits poured s)
+  read-refused f e z = refused-of Early f (readWith fits poured s) read-outside e z

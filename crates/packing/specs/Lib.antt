@@ -1,4 +1,5 @@
 pub mod Small
+pub mod Inputs
 pub mod Steps
 pub mod Answers
 pub mod Packed

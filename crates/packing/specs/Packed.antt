@@ -1,6 +1,6 @@
--- Refusal numbers: number, stage and count come back out of the one number that C gets, as the header's functions take them out.
+-- Refusal numbers: number, stage, place and count come back out of the one number that C gets, as the header's functions take them out.
 -- Assumes nothing.
-use Prim.Native.Nat.{ℕ, _+_, _*_, _/_, _%_}
+use Prim.Native.Nat.{ℕ, _+_, _*_, _/_, _%_, _<_}
 use native.Mathlib.Omega.{arith}
 use mathlib.Core.Path.{_≡_, sym, ap, _∙_}
 use mathlib.Core.List.{List}
@@ -9,19 +9,25 @@ use Rattle.rule.specs.Calls.{packed, checkFile, stepFile, filterFile, runForFil
 use Rattle.packing.specs.Small.{Small}
 use Rattle.packing.specs.Answers.{check-answer, step-answer, filter-answer, run-answer, make-answer}
 
--- the answer that is in a number: pathpetal_number, pathpetal_stage and pathpetal_count of the header
+-- the answer that is in a number: pathpetal_number, pathpetal_stage, pathpetal_place and pathpetal_count of the header
 unfoldable pub unpacked : ℕ → Answer
-unpacked p = record { number = p / 256 % 256; stage = p % 256; count = p / 65_536 }
+unpacked p = record { number = p / 256 % 256; stage = p % 256; place = p / 65_536 % 512; count = p / 33_554_432 }
+
+nine-bits : (q r : ℕ) → r < 512 → (q * 512 + r) % 512 ≡ r
+nine-bits q r h = omega arith
 
 -- of every answer that a call over bytes can give
 pub unpacked-packed : (a : Answer) → Small a → unpacked (packed a) ≡ a
 unfolding unpacked packed
 unpacked-packed a h =
-    let p = a .count * 65_536 + a .number * 256 + a .stage in
-    let number : p / 256 % 256 ≡ a .number = omega arith in
+    let p = a .count * 33_554_432 + a .place * 65_536 + a .number * 256 + a .stage in
+    let above : p / 256 ≡ a .count * 131_072 + a .place * 256 + a .number = omega arith in
+    let number : p / 256 % 256 ≡ a .number = omega (arith, above) in
     let stage : p % 256 ≡ a .stage = omega arith in
-    let count : p / 65_536 ≡ a .count = omega arith in
-    rw (number, stage, count)
+    let higher : p / 65_536 ≡ a .count * 512 + a .place = omega arith in
+    let place : p / 65_536 % 512 ≡ a .place = ap (λ k. k % 512) higher ∙ nine-bits (a .count) (a .place) (omega arith) in
+    let count : p / 33_554_432 ≡ a .count = omega arith in
+    rw (number, stage, place, count)
 
 -- so that two of them are one where their numbers are
 pub one-answer : (a b : Answer) → Small a → Small b → packed a ≡ packed b → a ≡ b

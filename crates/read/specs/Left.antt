@@ -4,11 +4,12 @@ use mathlib.Core.Path.{_≡_, refl, sym, _∙_, ap}
 use mathlib.Core.Bool.{Bool, true, false, _&&_}
 use mathlib.Core.List.{List, [], _∷_}
 use lib.ListN.{length}
+use Rattle.rule.specs.declared.Fault.{Fault}
 use Rattle.rule.specs.Rows.{Row, map, all, same}
 use Rattle.rule.specs.Ranges.{cellsAllowed}
 use Rattle.rule.specs.Channel.{Channel, rows, lengths}
 use Rattle.rule.specs.Checks.{long}
-use Rattle.rule.specs.Refusals.{Outcome, numberOf}
+use Rattle.rule.specs.Refusals.{Outcome, faultOf}
 use Rattle.rule.specs.File.{countOf, channelOf, readWith}
 use Rattle.rule.specs.Calls.{Called, plainly, fit, readCall}
 use Rattle.rule.specs.Counted.{counted, countsOf}
@@ -59,7 +60,7 @@ module _ (lent : Channel) (s : List ℕ) where
   unfolding readCall
   call-is = ap (λ fits. plainly lent (readWith fits [] s)) (fit-is lent)
 
-  pub refused-by : (r : ℕ) → r ≡ numberOf outcome → (r ≡ 0 → ⊥) → leaves (early r) lent ≡ readCall lent s
+  pub refused-by : (r : Fault) → r ≡ faultOf outcome → (r .number ≡ 0 → ⊥) → leaves (early r) lent ≡ readCall lent s
   unfolding plainly
   refused-by r e z = refused-call lent (λ _. 0) (λ c. c) r outcome (read-outside _ [] s) e z ∙ call-is
 

@@ -2,23 +2,34 @@
 ghost use mathlib.Core.Path.{_≡_};
 ghost use mathlib.Core.List.{[]};
 ghost use Rattle.rule.specs.Counted.{counted};
-ghost use Rattle.rule.specs.Refusals.{numberOf};
+ghost use Rattle.rule.specs.Refusals.{faultOf};
 ghost use Rattle.rule.specs.File.{readWith};
 ghost use Rattle.rule.specs.Calls.{readCall};
 ghost use Rattle.little.specs.Numbers.{AreBytes};
 ghost use Rattle.read.specs.Left.{lentFit, leavesAll};
 
-// The reader's number for rows that are lent.
-fn check_lent(s: &[u8], h: &[i64], e: &[i64], u: &[i64], v: &[i64], q: &[i64], f: &[i64]) -> u64
-    ensures { λ r. ⌜ r ≡ numberOf (readWith (lentFit (now (h .entry)) (now (e .entry)) (now (u .entry)) (now (v .entry)) (now (q .entry)) (now (f .entry))) [] (now (s .entry))) ⌝ }
+// The reader's fault for rows that are lent.
+fn check_lent(
+    s: &[u8],
+    h: &[i64],
+    e: &[i64],
+    u: &[i64],
+    v: &[i64],
+    q: &[i64],
+    f: &[i64],
+) -> rule::Fault
+    ensures { λ r. ⌜ r ≡ faultOf (readWith (lentFit (now (h .entry)) (now (e .entry)) (now (u .entry)) (now (v .entry)) (now (q .entry)) (now (f .entry))) [] (now (s .entry))) ⌝ }
 {
-    let number = form::head(s);
-    if number != 0 {
-        return number;
+    let fault = form::head(s);
+    if fault.number != 0 {
+        return fault;
     }
     let n = little::count_at(s, 4) as usize;
     if !checks::shaped(n, h, e, u, v, q, f) {
-        return 1;
+        return rule::Fault {
+            number: 1,
+            place: 0,
+        };
     }
     reader::body(s, n, false, s)
 }
@@ -44,10 +55,10 @@ pub fn read(
     ensures { λ r. ⌜ leavesAll r (now (h .exit)) (now (e .exit)) (now (u .exit)) (now (v .exit)) (now (q .exit)) (now (f .exit)) ≡ readCall (counted c (now (h .entry)) (now (e .entry)) (now (u .entry)) (now (v .entry)) (now (q .entry)) (now (f .entry))) (now (s .entry)) ⌝ }
     ensures { λ _. ⌜ AreBytes (now (s .entry)) ⌝ }
 {
-    let number = check_lent(s, h, e, u, v, q, f);
-    if number != 0 {
+    let fault = check_lent(s, h, e, u, v, q, f);
+    if fault.number != 0 {
         return Reading {
-            answer: answers::refused(number, 0),
+            answer: answers::refused(fault, 0),
             counts: c,
         };
     }

@@ -1,6 +1,6 @@
 // Reading: the channel file's bytes, in the reader's own order: 12, 13, 1, 12, 14, then 2 to 5.
 ghost use mathlib.Core.Path.{_≡_};
-ghost use Rattle.rule.specs.Refusals.{numberOf};
+ghost use Rattle.rule.specs.Refusals.{faultOf};
 ghost use Rattle.rule.specs.Checks.{checked};
 ghost use Rattle.rule.specs.File.{channelOf, readWith};
 ghost use Rattle.rule.specs.Calls.{rowIn};
@@ -21,18 +21,18 @@ fn check_opened(
     f: &mut [i64],
     poured: bool,
     w: &[i64],
-) -> u64
+) -> rule::Fault
     requires { ⌜ Opens (now s) (now h) (now e) (now u) (now v) (now q) (now f) ⌝ }
-    ensures { λ r. ⌜ r ≡ numberOf (checked (channelOf (now (s .entry))) (pouredRows poured (now (w .entry)))) ⌝ }
+    ensures { λ r. ⌜ r ≡ faultOf (checked (channelOf (now (s .entry))) (pouredRows poured (now (w .entry)))) ⌝ }
 {
     let c = opened::opened(s, h, e, u, v, q, f);
     checks::check(c, h, e, u, v, q, f, poured, w)
 }
 
 // 1 to 5 of the channel that a file of n cells holds, in rows of its own.
-fn values(s: &[u8], n: usize, poured: bool, p: &[u8]) -> u64
+fn values(s: &[u8], n: usize, poured: bool, p: &[u8]) -> rule::Fault
     requires { ⌜ Formed n poured (now s) (now p) ⌝ }
-    ensures { λ r. ⌜ r ≡ numberOf (checked (channelOf (now (s .entry))) (pouredRows poured (rowIn (now (p .entry))))) ⌝ }
+    ensures { λ r. ⌜ r ≡ faultOf (checked (channelOf (now (s .entry))) (pouredRows poured (rowIn (now (p .entry))))) ⌝ }
 {
     let faces = 3 * (n - 1);
     let cells = 3 * n;
@@ -57,35 +57,38 @@ fn values(s: &[u8], n: usize, poured: bool, p: &[u8]) -> u64
 }
 
 // 12, 14, then 2 to 5, of a file of n cells.
-pub fn body(s: &[u8], n: usize, poured: bool, p: &[u8]) -> u64
+pub fn body(s: &[u8], n: usize, poured: bool, p: &[u8]) -> rule::Fault
     requires { ⌜ Begun n poured (now s) (now p) ⌝ }
-    ensures { λ r. ⌜ r ≡ numberOf (bodyTests n (pouredRows poured (rowIn (now (p .entry)))) (now (s .entry))) ⌝ }
+    ensures { λ r. ⌜ r ≡ faultOf (bodyTests n (pouredRows poured (rowIn (now (p .entry)))) (now (s .entry))) ⌝ }
 {
-    let number = form::form(s, n);
-    if number != 0 {
-        return number;
+    let fault = form::form(s, n);
+    if fault.number != 0 {
+        return fault;
     }
     values(s, n, poured, p)
 }
 
-// The reader's number for the file s, and for the poured row in the bytes p where one is poured: 0, or the refusal's.
-pub fn check(s: &[u8], poured: bool, p: &[u8]) -> u64
-    ensures { λ r. ⌜ r ≡ numberOf (readWith (fitsIn poured (now (p .entry))) (pouredRows poured (rowIn (now (p .entry)))) (now (s .entry))) ⌝ }
+// The reader's fault for the file s, and for the poured row in the bytes p where one is poured: none, or the refusal's.
+pub fn check(s: &[u8], poured: bool, p: &[u8]) -> rule::Fault
+    ensures { λ r. ⌜ r ≡ faultOf (readWith (fitsIn poured (now (p .entry))) (pouredRows poured (rowIn (now (p .entry)))) (now (s .entry))) ⌝ }
 {
-    let number = form::head(s);
-    if number != 0 {
-        return number;
+    let fault = form::head(s);
+    if fault.number != 0 {
+        return fault;
     }
     let n = little::count_at(s, 4) as usize;
     if !form::shape_passes(n, poured, p) {
-        return 1;
+        return rule::Fault {
+            number: 1,
+            place: 0,
+        };
     }
     body(s, n, poured, p)
 }
 
 // The same as an answer.
 pub fn answer(s: &[u8], poured: bool, p: &[u8]) -> rule::Answer
-    ensures { λ r. ⌜ r ≡ early (numberOf (readWith (fitsIn poured (now (p .entry))) (pouredRows poured (rowIn (now (p .entry)))) (now (s .entry)))) ⌝ }
+    ensures { λ r. ⌜ r ≡ early (faultOf (readWith (fitsIn poured (now (p .entry))) (pouredRows poured (rowIn (now (p .entry)))) (now (s .entry)))) ⌝ }
 {
     answers::refused(check(s, poured, p), 0)
 }

@@ -11,17 +11,19 @@ use lib.Dec.{ltb}
 use lib.IntN.{pos}
 use lib.ListN.{length, take, replicate}
 use Rattle.rule.specs.declared.Answer.{Answer}
+use Rattle.rule.specs.declared.Fault.{Fault}
 use Rattle.rule.specs.Rows.{Row}
 use Rattle.rule.specs.Channel.{Channel, moved, channel}
-use Rattle.rule.specs.Refusals.{Refusal, number, numberOf, Outcome, refused, done, _>>=_}
+use Rattle.rule.specs.Refusals.{Refusal, numberOf, faultOf, Outcome, refused, done, _>>=_}
 use Rattle.rule.specs.Checks.{checked, isComplete}
 use Rattle.rule.specs.Step.{Stepped, step}
 use Rattle.rule.specs.Run.{Ending, Ran, whole, open-by, paused, runOn, run, runFor}
 use Rattle.rule.specs.Calls.{Called, called, stepCall, ended, ran, runCall, runForCall}
 use Rattle.rule.specs.Ranges.{mostCells, mostSteps}
-use Rattle.answers.specs.Stages.{leaves, stageOf, stage-none}
+use Rattle.answers.specs.Stages.{leaves, early, stage-none}
 use Rattle.answers.specs.Ends.{endingOf}
-use Rattle.checks.specs.Numbers.{number-not-0, done-of, refused-of}
+use Rattle.places.specs.Faults as faults
+use Rattle.checks.specs.Numbers.{number-not-0, numbered, done-of, refused-of}
 use Rattle.checks.specs.Met.{checked-outside}
 use Rattle.checks.specs.Allowed.{allowed-of}
 
@@ -37,21 +39,25 @@ fewerOf most left = cond (ltb most left) most left
 unfoldable pub ranOf : Ran → Called Channel
 ranOf it = record { answer = ended (it .count) (it .ending); left = it .channel }
 
-abbrev pub answer : ℕ → ℕ → ℕ → Answer
-answer number stage count = record { number = number; stage = stage; count = count }
+abbrev pub answer : Fault → ℕ → ℕ → Answer
+answer fault stage count = record { number = fault .number; stage = stage; place = fault .place; count = count }
+
+-- what an answer tells of a refusal
+abbrev pub faultIn : Answer → Fault
+faultIn r = record { number = r .number; place = r .place }
 
 -- a step's answer tells how a run goes on
 pub data Told (c : Channel) (left count : ℕ) (r : Answer) (after : Channel) : Type 0 where
   took : r .number ≡ 0 → runOn (suc left) count c ≡ runOn left (count + 1) after → Told c left count r after
-  ceased : (r .number ≡ 0 → ⊥) → record { answer = answer (r .number) (r .stage) count; left = after } ≡ ranOf (runOn (suc left) count c) → Told c left count r after
+  ceased : (r .number ≡ 0 → ⊥) → record { answer = answer (faultIn r) (r .stage) count; left = after } ≡ ranOf (runOn (suc left) count c) → Told c left count r after
 
 by-outcome : (c : Channel) (left count : ℕ) (r : Answer) (after : Channel) (o : Outcome Stepped) → step c (nothing (c .N)) ≡ o → record { answer = r; left = after } ≡ called c (λ t. t .passes) (λ t. t .channel) o → Told c left count r after
 unfolding called runOn ranOf ended
 by-outcome c left count r after (refused why stage) p e =
-    let n : r .number ≡ number why = ap (λ k. k .answer .number) e in
+    let f : faultIn r ≡ faults.told why = ap (λ k. faultIn (k .answer)) e in
     let s : r .stage ≡ stage = ap (λ k. k .answer .stage) e in
     let a : after ≡ c = ap (λ k. k .left) e in
-    ceased (λ z. number-not-0 why (sym n ∙ z)) (rw (runOn, p) (λ i. record { answer = answer (n i) (s i) count; left = a i }))
+    ceased (λ z. number-not-0 why (sym (numbered f) ∙ z)) (rw (runOn, p) (λ i. record { answer = answer (f i) (s i) count; left = a i }))
 by-outcome c left count r after (done t) p e =
     let n : r .number ≡ 0 = ap (λ k. k .answer .number) e in
     let a : after ≡ t .channel = ap (λ k. k .left) e in
@@ -90,7 +96,7 @@ unfolding fewerOf
 fewer-fits most left = by-test (ltb most left) most left refl
 
 -- the channel of a run is refused, or its steps begin
-pub run-refused : (most : ℕ) (c : Channel) (why : Refusal) → checked c [] ≡ refused why 0 → leaves (answer (number why) 0 0) c ≡ runForCall most c
+pub run-refused : (most : ℕ) (c : Channel) (why : Refusal) → checked c [] ≡ refused why 0 → leaves (answer (faults.told why) 0 0) c ≡ runForCall most c
 unfolding runForCall ran runFor _>>=_
 run-refused most c why e = rw e
 
@@ -114,10 +120,10 @@ nothing-poured n h =
     ap (λ k. take n (replicate k (pos 0))) e ∙ take-replicate n (mostCells - n)
 
 -- a run whose channel is refused
-pub run-early : (most : ℕ) (c : Channel) (k : ℕ) → k ≡ numberOf (checked c []) → (k ≡ 0 → ⊥) → leaves (answer k (stageOf k 0) 0) c ≡ runForCall most c
-run-early most c k e z =
-    let y = refused-of _ k (checked c []) (checked-outside c []) e z in
-    (λ i. leaves (answer (y .numbered i) (stage-none k (y .such) i) 0) c) ∙ run-refused most c (y .why) (y .is)
+pub run-early : (most : ℕ) (c : Channel) (f : Fault) → f ≡ faultOf (checked c []) → (f .number ≡ 0 → ⊥) → leaves (early f) c ≡ runForCall most c
+run-early most c f e z =
+    let y = refused-of _ f (checked c []) (checked-outside c []) e z in
+    (λ i. leaves (answer (y .tells i) (stage-none (f .number) (y .such) i) 0) c) ∙ run-refused most c (y .why) (y .is)
 
 module _ (most : ℕ) (start : Channel) where
   abbrev pub now : ℕ → Row → Row → Row → Row → Row → Channel
@@ -148,11 +154,11 @@ module _ (most : ℕ) (start : Channel) where
           let z : suc (left - 1) ≡ left = omega arith in
           ap (λ k. ranOf (runOn k count (now accepted e u v q f))) z ∙ g .going
 
-      stops : Told (now accepted e u v q f) (left - 1) count r after → (r .number ≡ 0 → ⊥) → leaves (answer (r .number) (r .stage) count) after ≡ runForCall most start
+      stops : Told (now accepted e u v q f) (left - 1) count r after → (r .number ≡ 0 → ⊥) → leaves (answer (faultIn r) (r .stage) count) after ≡ runForCall most start
       stops (took z w) d = absurd (d z)
       stops (ceased z w) d = w ∙ unrolled
 
-      pub run-stops : (r .number ≡ 0 → ⊥) → leaves (answer (r .number) (r .stage) count) after ≡ runForCall most start
+      pub run-stops : (r .number ≡ 0 → ⊥) → leaves (answer (faultIn r) (r .stage) count) after ≡ runForCall most start
       run-stops = stops (told (now accepted e u v q f) (left - 1) count r after p)
 
       goes : Told (now accepted e u v q f) (left - 1) count r after → r .number ≡ 0 → ranOf (runOn (left - 1) (count + 1) after) ≡ runForCall most start

@@ -24,10 +24,10 @@ pub fn run_for(
 ) -> rule::Left
     ensures { λ r. ⌜ left c r (now (h .entry)) (now (e .exit)) (now (u .exit)) (now (v .exit)) (now (q .exit)) (now (f .exit)) ≡ runForCall most (counted c (now (h .entry)) (now (e .entry)) (now (u .entry)) (now (v .entry)) (now (q .entry)) (now (f .entry))) ⌝ }
 {
-    let number = checks::check(c, h, e, u, v, q, f, false, h);
-    if number != 0 {
+    let fault = checks::check(c, h, e, u, v, q, f, false, h);
+    if fault.number != 0 {
         return rule::Left {
-            answer: answers::refused(number, 0),
+            answer: answers::refused(fault, 0),
             accepted: c.accepted,
         };
     }
@@ -45,6 +45,7 @@ pub fn run_for(
                 answer: rule::Answer {
                     number: a.number,
                     stage: a.stage,
+                    place: a.place,
                     count,
                 },
                 accepted,

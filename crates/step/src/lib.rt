@@ -18,12 +18,8 @@ pub fn step(
 {
     let count = c.accepted;
     let r = attempt::attempt(c, h, e, u, v, q, f, s);
-    let answer = rule::Answer {
-        number: r.number,
-        stage: r.stage,
-        count: r.count,
-    };
-    let refusal = r.number;
+    let answer = r.answer;
+    let refusal = answer.number;
     if refusal != 0 {
         return rule::Left {
             answer,

@@ -6,9 +6,10 @@ use native.Mathlib.Omega.{arith}
 use lib.IntN.{pos}
 use lib.ListN.{length, List·getD-append}
 use Rattle.whole.specs.Row.{tab-ext, zeros, padded}
+use Rattle.rule.specs.declared.Fault.{Fault}
 use Rattle.rule.specs.Rows.{Row, cell}
 use Rattle.rule.specs.Channel.{Channel, channel, filled}
-use Rattle.rule.specs.Refusals.{Outcome, refused, done, number, numberOf, _>>=_}
+use Rattle.rule.specs.Refusals.{Outcome, refused, done, speed, place, numberOf, placeOf, faultOf, _>>=_}
 use Rattle.rule.specs.Flux.{fluxes}
 use Rattle.rule.specs.Acceleration.{accelerations}
 use Rattle.rule.specs.Make.{makeChecked, make, reducedVelocities}
@@ -16,43 +17,49 @@ use Rattle.rows.specs.Firsts.{firsts, firsts-all}
 use Rattle.solve.specs.Solved.{solvedOf, solved-number}
 use Rattle.flux.specs.declared.FaceFluxes.{FaceFluxes}
 use Rattle.dispersion.specs.Asked.{Moving, Ready}
-use Rattle.flux.specs.Faces.{fluxesOf, fluxes-number, length-fluxes}
+use Rattle.flux.specs.Faces.{fluxesOf, fluxes-number, fluxes-plain, length-fluxes}
 use Rattle.dispersion.specs.Sizes.{length-accelerations}
-use Rattle.checks.specs.Numbers.{done-of, result-of, first-done, after-done}
+use Rattle.places.specs.Faults.{plain, none}
+use Rattle.checks.specs.Numbers.{told, numbered, done-of, result-of, first-done, after-done, Plain, plain-then, plain-last, plain-fault}
 use Rattle.checks.specs.Facts.{bed-of}
 use Rattle.checks.specs.Made.{Makeable, worked, make-is}
 use Rattle.make_v.specs.declared.Velocities.{Velocities}
 use Rattle.make_v.specs.Velocities.{Given, velocitiesOf}
 use Rattle.work_out.specs.declared.Made.{Made}
 
--- of a refusal only its number
-abbrev pub nothing : ℕ → Made
-nothing r = record { number = r; v = zeros; q = zeros; f = zeros }
+-- of a refusal only its fault
+abbrev pub nothing : Fault → Made
+nothing r = record { fault = r; v = zeros; q = zeros; f = zeros }
 
 -- V, Q of each face and F of each cell
 abbrev pub rowsOf : ℕ → Row → Row → Row → Made
-rowsOf n v Q F = record { number = 0; v = padded n v; q = padded (n - 1) Q; f = padded n F }
+rowsOf n v Q F = record { fault = none; v = padded n v; q = padded (n - 1) Q; f = padded n F }
 
 -- of a channel V, and the newest levels of Q and F
 unfoldable pub madeOf : ℕ → Outcome Channel → Made
-madeOf n (refused r stage) = nothing (number r)
+madeOf n (refused r stage) = nothing (told r)
 madeOf n (done c) = rowsOf n (c .v) (firsts (n - 1) (c .Q)) (firsts n (c .F))
 
-pub made-number : (n : ℕ) (m : Outcome Channel) → madeOf n m .number ≡ numberOf m
-unfolding madeOf numberOf
-made-number n (refused r k) = refl
-made-number n (done c) = refl
+pub made-fault : (n : ℕ) (m : Outcome Channel) → madeOf n m .fault ≡ faultOf m
+unfolding madeOf numberOf placeOf
+made-fault n (refused r k) = refl
+made-fault n (done c) = refl
 
 -- the newest of filled levels
 newest : (n : ℕ) (row : Row) → length row ≡ n → firsts n (filled row) ≡ row
 unfolding filled
 newest n row long = tab-ext n (cell (filled row)) (cell row) (λ i h. List·getD-append row (row ++ row) (pos 0) i (rw long h)) ∙ firsts-all n row long
 
--- a number that is not 0 is the refusal's, whatever was to follow
-stops : {A : Type 0} (n r : ℕ) (m : Outcome A) (f : A → Outcome Channel) → r ≡ numberOf m → (r ≡ 0 → ⊥) → nothing r ≡ madeOf n (m >>= f)
-unfolding numberOf _>>=_ madeOf
+-- a fault whose number is not 0 is the refusal's, whatever was to follow
+stops : {A : Type 0} (n : ℕ) (r : Fault) (m : Outcome A) (f : A → Outcome Channel) → r ≡ faultOf m → (r .number ≡ 0 → ⊥) → nothing r ≡ madeOf n (m >>= f)
+unfolding numberOf placeOf _>>=_ madeOf
 stops n r (refused why k) f e z = ap nothing e
-stops n r (done a) f e z = absurd (z e)
+stops n r (done a) f e z = absurd (z (numbered e))
+
+-- 7 has no place
+velocities-plain : (n X : ℕ) (h u : Row) → Plain (reducedVelocities n X h u)
+unfolding reducedVelocities place
+velocities-plain n X h u = plain-then _ _ (plain-last _ speed refl) (λ _. tt)
 
 -- an outcome's number, and its row in an array
 pub record Kept (n : ℕ) (m : Outcome Row) (r : ℕ) (array : Row) : Type 0 where
@@ -61,10 +68,10 @@ pub record Kept (n : ℕ) (m : Outcome Row) (r : ℕ) (array : Row) : Type 0 whe
 
 -- told by a value that has both
 kept-by :
-    {S : Type 0} (told : S → ℕ) (array : S → Row) (of : Outcome Row → S) (n : ℕ) →
-    ((m : Outcome Row) → told (of m) ≡ numberOf m) → ((new : Row) → array (of (done new)) ≡ padded n new) → (m : Outcome Row) (s : S) → s ≡ of m → Kept n m (told s) (array s)
-kept-by told array of n p q m s e =
-    record { number = ap told e ∙ p m; row = λ new d. ap array (e ∙ ap of d) ∙ q new }
+    {S : Type 0} (number : S → ℕ) (array : S → Row) (of : Outcome Row → S) (n : ℕ) →
+    ((m : Outcome Row) → number (of m) ≡ numberOf m) → ((new : Row) → array (of (done new)) ≡ padded n new) → (m : Outcome Row) (s : S) → s ≡ of m → Kept n m (number s) (array s)
+kept-by number array of n p q m s e =
+    record { number = ap number e ∙ p m; row = λ new d. ap array (e ∙ ap of d) ∙ q new }
 
 pub kept-velocities : (n : ℕ) (m : Outcome Row) (s : Velocities) → s ≡ velocitiesOf n m → Kept n m (s .number) (s .v)
 unfolding velocitiesOf solvedOf
@@ -107,7 +114,7 @@ module _ (n X T wanted : ℕ) (h e u : Row) where
       record { moving = moving m; depths = record { least = c .least; most = c .most; long = omega (arith, c .h-long); small = c .h-small } }
 
   -- the ways out
-  pub stops-checked : (r : ℕ) → r ≡ numberOf checks → (r ≡ 0 → ⊥) → nothing r ≡ madeOf n made
+  pub stops-checked : (r : Fault) → r ≡ faultOf checks → (r .number ≡ 0 → ⊥) → nothing r ≡ madeOf n made
   stops-checked r p z = stops n r checks _ p z ∙ ap (madeOf n) (sym (make-is n X T wanted h e u))
 
   module _ (passed : numberOf checks ≡ 0) where
@@ -115,17 +122,17 @@ module _ (n X T wanted : ℕ) (h e u : Row) where
     unfolding worked
     after-checks = make-is n X T wanted h e u ∙ after-done checks tt _ (done-of checks passed)
 
-    pub stops-7 : {r : ℕ} {array : Row} → Kept n (reducedVelocities n X h u) r array → (r ≡ 0 → ⊥) → nothing r ≡ madeOf n made
-    stops-7 {r} k z = stops n r (reducedVelocities n X h u) after-v (k .number) z ∙ ap (madeOf n) (sym after-checks)
+    pub stops-7 : {r : ℕ} {array : Row} → Kept n (reducedVelocities n X h u) r array → (r ≡ 0 → ⊥) → nothing (plain r) ≡ madeOf n made
+    stops-7 {r} k z = stops n (plain r) (reducedVelocities n X h u) after-v (plain-fault r _ (velocities-plain n X h u) (k .number)) z ∙ ap (madeOf n) (sym after-checks)
 
     module _ (v : Row) (v-done : reducedVelocities n X h u ≡ done v) where
       after-velocities : made ≡ after-v v
       after-velocities = after-checks ∙ after-done (reducedVelocities n X h u) v after-v v-done
 
-    pub stops-9 : {r s : ℕ} {array last : Row} → Kept n (reducedVelocities n X h u) r array → r ≡ 0 → Kept (n - 1) (fluxes n X h e u) s last → (s ≡ 0 → ⊥) → nothing s ≡ madeOf n made
+    pub stops-9 : {r s : ℕ} {array last : Row} → Kept n (reducedVelocities n X h u) r array → r ≡ 0 → Kept (n - 1) (fluxes n X h e u) s last → (s ≡ 0 → ⊥) → nothing (plain s) ≡ madeOf n made
     stops-9 {r} {s} k p l z =
         let d = result-of (reducedVelocities n X h u) (sym (k .number) ∙ p) in
-        stops n s (fluxes n X h e u) _ (l .number) z ∙ ap (madeOf n) (sym (after-velocities (d .result) (d .is)))
+        stops n (plain s) (fluxes n X h e u) _ (plain-fault s _ (fluxes-plain n X h e u) (l .number)) z ∙ ap (madeOf n) (sym (after-velocities (d .result) (d .is)))
 
   -- V and Q of a channel that is made
   pub record Whole : Type 0 where
@@ -148,11 +155,11 @@ module _ (n X T wanted : ℕ) (h e u : Row) where
 
   pub all-kept :
       {r s : ℕ} {v q f : Row} → numberOf checks ≡ 0 → Kept n (reducedVelocities n X h u) r v → r ≡ 0 → Kept (n - 1) (fluxes n X h e u) s q → s ≡ 0 → f ≡ padded n F →
-      record { number = 0; v = v; q = q; f = f } ≡ madeOf n made
+      record { fault = none; v = v; q = q; f = f } ≡ madeOf n made
   all-kept passed k z l y p =
       let d = result-of (reducedVelocities n X h u) (sym (k .number) ∙ z) in
       let g = result-of (fluxes n X h e u) (sym (l .number) ∙ y) in
-      (λ i. record { number = 0; v = k .row (d .result) (d .is) i; q = l .row (g .result) (g .is) i; f = p i })
+      (λ i. record { fault = none; v = k .row (d .result) (d .is) i; q = l .row (g .result) (g .is) i; f = p i })
       ∙ rows-kept (whole passed (d .result) (g .result) (d .is) (g .is))
 
   pub whole-of : numberOf made ≡ 0 → Whole

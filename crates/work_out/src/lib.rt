@@ -3,19 +3,19 @@ ghost use mathlib.Core.Path.{_≡_};
 ghost use Rattle.rule.specs.Make as rule;
 ghost use Rattle.work_out.specs.Made.{nothing, madeOf};
 
-// 0 with V, Q of each face and F of each cell; or the refusal's number, and zeros.
+// No fault with V, Q of each face and F of each cell; or the refusal's fault, and zeros.
 pub struct Made {
-    pub number: u64,
+    pub fault: rule::Fault,
     pub v: [i64; rule::MOST_CELLS],
     pub q: [i64; rule::MOST_CELLS],
     pub f: [i64; rule::MOST_CELLS],
 }
 
-fn nothing(number: u64) -> Made
-    ensures { λ r. ⌜ r ≡ nothing number ⌝ }
+fn nothing(fault: rule::Fault) -> Made
+    ensures { λ r. ⌜ r ≡ nothing fault ⌝ }
 {
     Made {
-        number,
+        fault,
         v: [0; rule::MOST_CELLS],
         q: [0; rule::MOST_CELLS],
         f: [0; rule::MOST_CELLS],
@@ -26,20 +26,34 @@ fn nothing(number: u64) -> Made
 pub fn work_out(c: rule::Counts, h: &[i64], e: &[i64], u: &[i64]) -> Made
     ensures { λ r. ⌜ r ≡ madeOf (c .n) (rule.make (c .n) (c .x) (c .t) (c .wanted) (now (h .entry)) (now (e .entry)) (now (u .entry))) ⌝ }
 {
-    let number = checks::check_made(c, h, e, u);
-    if number != 0 {
-        return nothing(number);
+    let fault = checks::check_made(c, h, e, u);
+    if fault.number != 0 {
+        return nothing(fault);
     }
     let velocities = make_v::reduced_velocities(c.n, c.x, h, u);
     let fluxes = flux::fluxes(c.n, c.x, h, e, u);
     if velocities.number != 0 {
-        return nothing(velocities.number);
+        return nothing(rule::Fault {
+            number: velocities.number,
+            place: 0,
+        });
     }
     if fluxes.number != 0 {
-        return nothing(fluxes.number);
+        return nothing(rule::Fault {
+            number: fluxes.number,
+            place: 0,
+        });
     }
     let v = velocities.v;
     let q = fluxes.q;
     let f = acceleration::accelerations(c.n, c.x, e, u);
-    Made { number: 0, v, q, f }
+    Made {
+        fault: rule::Fault {
+            number: 0,
+            place: 0,
+        },
+        v,
+        q,
+        f,
+    }
 }

@@ -17,12 +17,16 @@ pub fn write(
 ) -> rule::Answer
     ensures { λ r. ⌜ leavesBytes r (now (d .exit)) ≡ writeCall (counted c (now (h .entry)) (now (e .entry)) (now (u .entry)) (now (v .entry)) (now (q .entry)) (now (f .entry))) (now (d .entry)) ⌝ }
 {
-    let number = checks::check(c, h, e, u, v, q, f, false, h);
-    if number != 0 {
-        return answers::refused(number, 0);
+    let fault = checks::check(c, h, e, u, v, q, f, false, h);
+    if fault.number != 0 {
+        return answers::refused(fault, 0);
     }
     if d.len() != layout::length_of(layout::EDITION, c.n) {
-        return answers::refused(15, 0);
+        let unfit = rule::Fault {
+            number: 15,
+            place: 0,
+        };
+        return answers::refused(unfit, 0);
     }
     put::put(d, c, h, e, u, v, q, f);
     answers::accepted(0)

@@ -4,6 +4,7 @@ use mathlib.Core.Bool.{true}
 use Prim.Native.Nat.{_-_, _≤_}
 use native.Mathlib.Omega.{arith}
 use borrow.Author.Needs.{needs}
+use Rattle.rule.specs.declared.Answer.{Answer}
 use Rattle.stage.specs.declared.Trial.{Trial}
 use Rattle.stage.specs.Kept.{Returned}
 use Rattle.advance.specs.Advance.{Going, Advances, asks, settles-asks, settled-is, staged, predicted, predicted-refused, corrected-refused, corrected-kept, corrected-settled, corrected-not, unsettled}
@@ -11,14 +12,14 @@ use Rattle.advance.proofs.advance.Statement.{statement}
 use Rattle.advance.proofs.advance.Tie as tie
 
 abbrev Inv-loop : tie.InvT-loop
-Inv-loop c h e v q f s old₀ predicted k₀ old k = (1 ≤ k) × (k ≤ 11) × Going (c .n) (c .x) (c .t) h e v q f s k old
+Inv-loop c h e v q f s old₀ k₀ old k = (1 ≤ k) × (k ≤ 11) × Going (c .n) (c .x) (c .t) h e v q f s k old
 
 abbrev μ-loop : tie.MeasureT-loop
-μ-loop c h e v q f s old₀ predicted k₀ old k = 11 - k
+μ-loop c h e v q f s old₀ k₀ old k = 11 - k
 
 -- the function's start and the loop's turn, from the places after them
 abbrev start : tie.In-loop Inv-loop μ-loop → tie.Start Inv-loop μ-loop
-start i = i .before .before .before .before
+start i = i .before .before .before .before .before .before
 
 abbrev turn : tie.After-stage2 Inv-loop μ-loop → tie.In-loop Inv-loop μ-loop
 turn c = c .before .before .before .before .before .before .before .before .before
@@ -26,38 +27,43 @@ turn c = c .before .before .before .before .before .before .before .before .befo
 abbrev passed : tie.After-settled Inv-loop μ-loop → tie.Else2 Inv-loop μ-loop
 passed c = c .before .before .before .before .before
 
+abbrev worked : tie.Else2 Inv-loop μ-loop → tie.After-stage2 Inv-loop μ-loop
+worked c = c .before .before .before
+
 -- the correction at hand is one of ten
 few : (i : tie.In-loop Inv-loop μ-loop) → i .before .loop .k ≤ 10
 few i = omega (arith, i .loop-test .taken)
 
 kept : (c : tie.Else2 Inv-loop μ-loop) →
-    let l = turn (c .before) .before .loop in
-    let s = start (turn (c .before)) in
-    Returned (s .args .c .n) (c .before .stage2 .result) (staged (s .args .c .n) (s .args .c .x) (s .args .c .t) (s .args .h .now) (s .args .e .now) (s .args .v .now) (s .args .q .now) (s .args .f .now) (s .args .s .now) true (l .old .q) (l .old .f))
+    let l = turn (worked c) .before .loop in
+    let s = start (turn (worked c)) in
+    Returned (s .args .c .n) (worked c .stage2 .result) (staged (s .args .c .n) (s .args .c .x) (s .args .c .t) (s .args .h .now) (s .args .e .now) (s .args .v .now) (s .args .q .now) (s .args .f .now) (s .args .s .now) true (l .old .q) (l .old .f))
 kept c =
-    let i = turn (c .before) in
+    let i = turn (worked c) in
     let l = i .before .loop in
     let s = start i in
-    corrected-kept (s .args .c .n) (s .args .c .x) (s .args .c .t) (s .args .h .now) (s .args .e .now) (s .args .v .now) (s .args .q .now) (s .args .f .now) (s .args .s .now) (s .pre .least) (s .pre .most) (s .pre .narrow) (l .k) (l .inv .0) (few i) (l .old) (l .inv .2) (c .before .stage2 .result) (c .before .stage2 .ensures) (c .if2 .left)
+    corrected-kept (s .args .c .n) (s .args .c .x) (s .args .c .t) (s .args .h .now) (s .args .e .now) (s .args .v .now) (s .args .q .now) (s .args .f .now) (s .args .s .now) (s .pre .least) (s .pre .most) (s .pre .narrow) (l .k) (l .inv .0) (few i) (l .old) (l .inv .2) (worked c .stage2 .result) (worked c .stage2 .ensures) (c .if2 .left)
 
 stage-requires : tie.Need-stage-requires Inv-loop μ-loop
 stage-requires c κs = c .pre
 
-stage-of-requires : tie.Need-stage-of-requires Inv-loop μ-loop
-stage-of-requires c κs = search needs
+refused-requires : tie.Need-refused-requires Inv-loop μ-loop
+refused-requires c κs = search needs
 
 returns : tie.Need-returns Inv-loop μ-loop
 returns c =
-    let s = c .before .before .before in
-    let r : Trial = c .before .before .stage .result in
-    subst (λ k. Advances (s .args .c .n) (s .args .c .x) (s .args .c .t) (s .args .h .now) (s .args .e .now) (s .args .v .now) (s .args .q .now) (s .args .f .now) (s .args .s .now) (record { number = r .number; stage = k; count = 0; trial = r }))
-    (sym (c .stage-of .ensures))
-    (predicted-refused (s .args .c .n) (s .args .c .x) (s .args .c .t) (s .args .h .now) (s .args .e .now) (s .args .v .now) (s .args .q .now) (s .args .f .now) (s .args .s .now) (s .pre .least) (s .pre .most) (s .pre .narrow) r (c .before .before .stage .ensures) (c .before .if1 .taken))
+    let d = c .before .before .before .before in
+    let s = d .before in
+    let r : Trial = d .stage .result in
+    subst (λ (k : Answer). Advances (s .args .c .n) (s .args .c .x) (s .args .c .t) (s .args .h .now) (s .args .e .now) (s .args .v .now) (s .args .q .now) (s .args .f .now) (s .args .s .now) (record { answer = k; trial = r }))
+    (sym (c .refused .ensures))
+    (predicted-refused (s .args .c .n) (s .args .c .x) (s .args .c .t) (s .args .h .now) (s .args .e .now) (s .args .v .now) (s .args .q .now) (s .args .f .now) (s .args .s .now) (s .pre .least) (s .pre .most) (s .pre .narrow) r (d .stage .ensures) (c .before .if1 .taken))
 
 loop-holds : tie.Need-loop-holds Inv-loop μ-loop
 loop-holds c =
-    let s = c .before .before in
-    (omega arith, omega arith, predicted (s .args .c .n) (s .args .c .x) (s .args .c .t) (s .args .h .now) (s .args .e .now) (s .args .v .now) (s .args .q .now) (s .args .f .now) (s .args .s .now) (s .pre .least) (s .pre .most) (s .pre .narrow) (c .before .stage .result) (c .before .stage .ensures) (c .if1 .left))
+    let d = c .before .before .before in
+    let s = d .before in
+    (omega arith, omega arith, predicted (s .args .c .n) (s .args .c .x) (s .args .c .t) (s .args .h .now) (s .args .e .now) (s .args .v .now) (s .args .q .now) (s .args .f .now) (s .args .s .now) (s .pre .least) (s .pre .most) (s .pre .narrow) (d .stage .result) (d .stage .ensures) (c .if1 .left))
 
 slice-aggregate-before-e : tie.Need-slice-aggregate-before-e Inv-loop μ-loop
 slice-aggregate-before-e c = search needs
@@ -77,18 +83,18 @@ stage-requires-2 c κs =
     let l = i .before .loop in
     asks (start i .pre) (l .old) (l .inv .2 .kept)
 
-stage-of-requires-2 : tie.Need-stage-of-requires-2 Inv-loop μ-loop
-stage-of-requires-2 c κs = search needs
+refused-requires-2 : tie.Need-refused-requires-2 Inv-loop μ-loop
+refused-requires-2 c κs = search needs
 
 returns-2 : tie.Need-returns-2 Inv-loop μ-loop
 returns-2 c =
-    let d = c .before .before in
+    let d = c .before .before .before .before in
     let i = turn d in
     let l = i .before .loop in
     let s = start i in
     let r : Trial = d .stage2 .result in
-    subst (λ k. Advances (s .args .c .n) (s .args .c .x) (s .args .c .t) (s .args .h .now) (s .args .e .now) (s .args .v .now) (s .args .q .now) (s .args .f .now) (s .args .s .now) (record { number = r .number; stage = k; count = 0; trial = r }))
-    (sym (c .stage-of2 .ensures))
+    subst (λ (k : Answer). Advances (s .args .c .n) (s .args .c .x) (s .args .c .t) (s .args .h .now) (s .args .e .now) (s .args .v .now) (s .args .q .now) (s .args .f .now) (s .args .s .now) (record { answer = k; trial = r }))
+    (sym (c .refused2 .ensures))
     (corrected-refused (s .args .c .n) (s .args .c .x) (s .args .c .t) (s .args .h .now) (s .args .e .now) (s .args .v .now) (s .args .q .now) (s .args .f .now) (s .args .s .now) (s .pre .least) (s .pre .most) (s .pre .narrow) (l .k) (l .inv .0) (few i) (l .old) (l .inv .2) r (d .stage2 .ensures) (c .before .if2 .taken))
 
 slice-aggregate-settled : tie.Need-slice-aggregate-settled Inv-loop μ-loop
@@ -100,47 +106,52 @@ slice-aggregate-settled-2 c = search needs
 settled-requires : tie.Need-settled-requires Inv-loop μ-loop
 settled-requires c κs =
     let e = c .before .before .before .before in
-    let i = turn (e .before) in
-    settles-asks (start i .pre .most) (e .before .stage2 .result) (i .before .loop .old) (kept e .kept) (i .before .loop .inv .2 .kept)
+    let i = turn (worked e) in
+    settles-asks (start i .pre .most) (worked e .stage2 .result) (i .before .loop .old) (kept e .kept) (i .before .loop .inv .2 .kept)
+
+accepted-requires : tie.Need-accepted-requires Inv-loop μ-loop
+accepted-requires c κs = search needs
 
 returns-3 : tie.Need-returns-3 Inv-loop μ-loop
 returns-3 c =
-    let e = passed (c .before) in
-    let i = turn (e .before) in
+    let e = passed (c .before .before) in
+    let i = turn (worked e) in
     let l = i .before .loop in
     let s = start i in
-    let r = e .before .stage2 in
-    corrected-settled (s .args .c .n) (s .args .c .x) (s .args .c .t) (s .args .h .now) (s .args .e .now) (s .args .v .now) (s .args .q .now) (s .args .f .now) (s .args .s .now) (s .pre .least) (s .pre .most) (s .pre .narrow) (l .k) (l .inv .0) (few i) (l .old) (l .inv .2) (r .result) (r .ensures) (e .if2 .left)
-    (sym (settled-is (s .args .c .n) (r .result) (l .old)) ∙ sym (c .before .settled .ensures) ∙ c .if3 .taken)
+    let r = worked e .stage2 in
+    subst (λ (k : Answer). Advances (s .args .c .n) (s .args .c .x) (s .args .c .t) (s .args .h .now) (s .args .e .now) (s .args .v .now) (s .args .q .now) (s .args .f .now) (s .args .s .now) (record { answer = k; trial = r .result }))
+    (sym (c .accepted .ensures))
+    (corrected-settled (s .args .c .n) (s .args .c .x) (s .args .c .t) (s .args .h .now) (s .args .e .now) (s .args .v .now) (s .args .q .now) (s .args .f .now) (s .args .s .now) (s .pre .least) (s .pre .most) (s .pre .narrow) (l .k) (l .inv .0) (few i) (l .old) (l .inv .2) (r .result) (r .ensures) (e .if2 .left)
+    (sym (settled-is (s .args .c .n) (r .result) (l .old)) ∙ sym (c .before .before .settled .ensures) ∙ c .before .if3 .taken))
 
 add-k : tie.Need-add-k Inv-loop μ-loop
 add-k c = search needs
 
 loop-less : tie.Need-loop-less Inv-loop μ-loop
-loop-less c = omega (arith, few (turn (passed (c .before) .before)))
+loop-less c = omega (arith, few (turn (worked (passed (c .before)))))
 
 loop-again : tie.Need-loop-again Inv-loop μ-loop
 loop-again c =
     let e = passed (c .before) in
-    let i = turn (e .before) in
+    let i = turn (worked e) in
     let l = i .before .loop in
     let s = start i in
-    let r = e .before .stage2 in (
+    let r = worked e .stage2 in (
       omega arith,
       omega (arith, few i),
       corrected-not (s .args .c .n) (s .args .c .x) (s .args .c .t) (s .args .h .now) (s .args .e .now) (s .args .v .now) (s .args .q .now) (s .args .f .now) (s .args .s .now) (s .pre .least) (s .pre .most) (s .pre .narrow) (l .k) (l .inv .0) (few i) (l .old) (l .inv .2) (r .result) (r .ensures) (e .if2 .left)
           (sym (settled-is (s .args .c .n) (r .result) (l .old)) ∙ sym (c .before .settled .ensures) ∙ c .if3 .left),
     )
 
-stage-of-requires-3 : tie.Need-stage-of-requires-3 Inv-loop μ-loop
-stage-of-requires-3 c κs = search needs
+refused-requires-3 : tie.Need-refused-requires-3 Inv-loop μ-loop
+refused-requires-3 c κs = search needs
 
 returns-4 : tie.Need-returns-4 Inv-loop μ-loop
 returns-4 c =
     let l = c .before .before .loop in
-    let s = c .before .before .before .before .before in
-    subst (λ k. Advances (s .args .c .n) (s .args .c .x) (s .args .c .t) (s .args .h .now) (s .args .e .now) (s .args .v .now) (s .args .q .now) (s .args .f .now) (s .args .s .now) (record { number = 10; stage = k; count = 0; trial = l .old }))
-    (sym (c .stage-of3 .ensures))
+    let s = c .before .before .before .before .before .before .before in
+    subst (λ (k : Answer). Advances (s .args .c .n) (s .args .c .x) (s .args .c .t) (s .args .h .now) (s .args .e .now) (s .args .v .now) (s .args .q .now) (s .args .f .now) (s .args .s .now) (record { answer = k; trial = l .old }))
+    (sym (c .refused3 .ensures))
     (unsettled (s .args .c .n) (s .args .c .x) (s .args .c .t) (s .args .h .now) (s .args .e .now) (s .args .v .now) (s .args .q .now) (s .args .f .now) (s .args .s .now) (l .k) (l .old) (c .before .loop-test .left) (l .inv .2))
 
 pub advance-spec : {M : Type 1} → statement M
@@ -150,7 +161,7 @@ advance-spec =
     Inv-loop
     μ-loop
     stage-requires
-    stage-of-requires
+    refused-requires
     returns
     loop-holds
     slice-aggregate-before-e
@@ -158,14 +169,15 @@ advance-spec =
     slice-aggregate-before-q
     slice-aggregate-before-f
     stage-requires-2
-    stage-of-requires-2
+    refused-requires-2
     returns-2
     slice-aggregate-settled
     slice-aggregate-settled-2
     settled-requires
+    accepted-requires
     returns-3
     add-k
     loop-less
     loop-again
-    stage-of-requires-3
+    refused-requires-3
     returns-4)

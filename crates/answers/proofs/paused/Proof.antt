@@ -11,7 +11,7 @@ stage-of-requires : tie.Need-stage-of-requires
 stage-of-requires c κs = search needs
 
 returns : tie.Need-returns
-returns c = ap (λ k. record { number = moreSteps; stage = k; count = c .before .args .count }) (c .stage-of .ensures ∙ sym (stage-high moreSteps 0 (lit≤ tt)))
+returns c = ap (λ k. record { number = moreSteps; stage = k; place = 0; count = c .before .args .count }) (c .stage-of .ensures ∙ sym (stage-high moreSteps 0 (lit≤ tt)))
 
 pub paused-spec : {M : Type 1} → statement M
 paused-spec = tie.close (tie.spec stage-of-requires returns)

@@ -9,6 +9,7 @@ use Rattle.rule.specs.Refusals.{numberOf}
 use Rattle.rule.specs.Checks.{ready}
 use Rattle.rule.specs.Filter.{smoothed, smoothedReduced}
 use Rattle.rule.specs.Step.{tried}
+use Rattle.checks.specs.Numbers.{numbered}
 use Rattle.checks.specs.Allowed.{Allowed}
 use Rattle.stage.specs.Kept.{Returned}
 use Rattle.filter.specs.Asked.{smoothing-of}
@@ -24,22 +25,30 @@ lent c =
     counted (a .c) (a .h .now) (a .e .now) (a .u .now) (a .v .now) (a .q .now) (a .f .now)
 
 -- past the checks of the input
-passed : (c : tie.Else1) → numberOf (ready (lent (c .before)) []) ≡ 0
-passed c = sym (c .before .ready .ensures) ∙ c .if1 .left
+passed : (c : tie.Else1) → numberOf (ready (lent (c .before .before)) []) ≡ 0
+passed c = sym (numbered (c .before .before .ready .ensures)) ∙ c .if1 .left
 
-allowed : (c : tie.Else1) → Allowed (lent (c .before))
-allowed c = checks-passed (lent (c .before)) [] (passed c)
+allowed : (c : tie.Else1) → Allowed (lent (c .before .before))
+allowed c = checks-passed (lent (c .before .before)) [] (passed c)
 
 abbrev else1 : tie.After-smoothed → tie.Else1
 else1 c = c .before .before .before
 
+-- the channel that is lent, and the smoothed rows, from past their checks
+abbrev lent1 : tie.Else1 → Channel
+lent1 c = lent (c .before .before)
+
+abbrev tried-at : tie.Else2 → tie.After-smoothed
+tried-at c = c .before .before .before
+
 -- past the checks of the smoothed rows
 worked-out : (c : tie.Else2) →
-    let l = lent (else1 (c .before) .before) in
-    Returned (l .N) (c .before .smoothed .result) (tried l (smoothed (l .N) (l .e)) (smoothedReduced (l .N) (l .v)))
+    let l = lent1 (else1 (tried-at c)) in
+    Returned (l .N) (tried-at c .smoothed .result) (tried l (smoothed (l .N) (l .e)) (smoothedReduced (l .N) (l .v)))
 worked-out c =
-    let k = else1 (c .before) in
-    kept (lent (k .before)) (passed k) (c .before .smoothed .result) (c .before .smoothed .ensures) (c .if2 .left)
+    let s = tried-at c in
+    let k = else1 s in
+    kept (lent1 k) (passed k) (s .smoothed .result) (s .smoothed .ensures) (c .if2 .left)
 
 -- from where the rows, and then the levels, are about to be stored
 abbrev else2 : tie.After-reduced2 → tie.Else2
@@ -71,13 +80,13 @@ same-length-5 c = search needs
 
 returns : tie.Need-returns
 returns c =
-    let k = c .before .before in
+    let k = c .before .before .before in
     (λ i. leaves (c .refused .ensures i) (lent k)) ∙ not-ready (lent k) (k .ready .result) (k .ready .ensures) (c .before .if1 .taken)
 
 smoothed-requires : tie.Need-smoothed-requires
 smoothed-requires c κs =
     let k = c .before .before in
-    smoothing-of (lent (k .before)) (allowed k)
+    smoothing-of (lent1 k) (allowed k)
 
 refused-requires-2 : tie.Need-refused-requires-2
 refused-requires-2 c κs = search needs
@@ -99,15 +108,15 @@ same-length-10 c = search needs
 
 returns-2 : tie.Need-returns-2
 returns-2 c =
-    let s = c .before .before in
+    let s = c .before .before .before .before in
     let k = else1 s in
-    (λ i. leaves (c .refused2 .ensures i) (lent (k .before)))
-    ∙ not-kept (lent (k .before)) (passed k) (s .smoothed .result) (s .smoothed .ensures) (c .before .if2 .taken)
+    (λ i. leaves (c .refused2 .ensures i) (lent1 k))
+    ∙ not-kept (lent1 k) (passed k) (s .smoothed .result) (s .smoothed .ensures) (c .before .if2 .taken)
 
 keep-cells-requires : tie.Need-keep-cells-requires
 keep-cells-requires c κs =
     let z = else2 c in
-    let a = allowed (else1 (z .before)) in
+    let a = allowed (else1 (tried-at z)) in
     let full = worked-out z .kept in
     record {
       most = a .cells .most;
@@ -122,7 +131,7 @@ keep-cells-requires c κs =
 renew-levels-requires : tie.Need-renew-levels-requires
 renew-levels-requires c κs =
     let z = else2 (storing-cells c) in
-    let a = allowed (else1 (z .before)) in
+    let a = allowed (else1 (tried-at z)) in
     let full = worked-out z .kept in
     record {
       least = omega (arith, a .cells .least);
@@ -156,9 +165,9 @@ returns-3 c =
     let renewed = c .before .before .before in
     let cells = renewed .before .before .before .before .before .before .before .before in
     let z = else2 (storing-cells (renewed .before)) in
-    let s = z .before in
+    let s = tried-at z in
     let k = else1 s in
-    let l = lent (k .before) in
+    let l = lent1 k in
     let new = cells .keep-cells .ensures in
     let levels = renewed .renew-levels .ensures in
     (λ i. leaves (c .accepted .ensures i) (moved l (l .accepted) (new .0 i) (new .1 i) (new .2 i) (levels .0 i) (levels .1 i)))

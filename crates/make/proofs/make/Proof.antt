@@ -41,7 +41,7 @@ long c = lengths-of _ _ _ _ _ _ _ (tests c .1)
 
 -- past the work, from where the rows are about to be stored
 abbrev worked : tie.After-struct-known2 → tie.After-work-out
-worked c = c .before .before .before .before .before .before
+worked c = c .before .before .before .before .before .before .before
 
 arrays : (c : tie.After-work-out) → (length (c .work-out .result .v) ≡ mostCells) × ((length (c .work-out .result .q) ≡ mostCells) × (length (c .work-out .result .f) ≡ mostCells))
 arrays c = let ok = c .work-out .ok in search needs
@@ -83,7 +83,7 @@ same-length-6 c = search needs
 
 returns-2 : tie.Need-returns-2
 returns-2 c =
-    let k = c .before .before .before in
+    let k = c .before .before .before .before in
     let l = lent (k .before .before) in
     (λ i. leaves (c .refused2 .ensures i) l) ∙ refused-by l (tests (k .before) .1) (k .work-out .result) (k .work-out .ensures) (c .before .if2 .taken)
 

@@ -1,5 +1,5 @@
 -- `make_checks::check` meets its contract: the input is refused before the buffer. Assumes nothing.
-use native.Mathlib.Omega.{arith}
+use mathlib.Core.Path.{_∙_}
 use Rattle.make_checks.specs.Order.{tested-is}
 use borrow.Author.Needs.{needs}
 use Rattle.make_checks.proofs.check.Statement.{statement}
@@ -19,8 +19,8 @@ returns c =
     let k = c .before in
     let m = k .before in
     let a = m .before .args in
-    let both = tested-is (a .c .n) (a .c .x) (a .c .t) (a .c .wanted) (a .h .now) (a .e .now) (a .u .now) (a .room) (m .check-made .result) (k .check-buffer .result) (m .check-made .ensures) (k .check-buffer .ensures) in
-    omega (arith, both, c .first .ensures)
+    c .first .ensures
+    ∙ tested-is (a .c .n) (a .c .x) (a .c .t) (a .c .wanted) (a .h .now) (a .e .now) (a .u .now) (a .room) (m .check-made .result) (k .check-buffer .result) (m .check-made .ensures) (k .check-buffer .ensures)
 
 pub check-spec : {M : Type 1} → statement M
 check-spec = tie.close (tie.spec check-made-requires check-buffer-requires first-requires returns)

@@ -7,12 +7,12 @@ use Rattle.make_checks.proofs.first.Tie as tie
 returns : tie.Need-returns
 unfolding firstOf
 returns c =
-    rw (ne-eqb (c .before .args .one) 0 (c .if1 .taken))
+    rw (ne-eqb (c .before .before .args .one .number) 0 (c .if1 .taken))
 
 returns-2 : tie.Need-returns-2
 unfolding firstOf
 returns-2 c =
-    rw (eq-eqb (c .before .args .one) 0 (c .if1 .left))
+    rw (eq-eqb (c .before .before .args .one .number) 0 (c .if1 .left))
 
 pub first-spec : {M : Type 1} → statement M
 first-spec = tie.close (tie.spec returns returns-2)

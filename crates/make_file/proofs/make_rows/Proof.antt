@@ -2,6 +2,7 @@
 use mathlib.Core.Path.{_≡_, sym, _∙_}
 use lib.ListN.{length}
 use Rattle.rule.specs.Refusals.{numberOf}
+use Rattle.checks.specs.Numbers.{numbered}
 use Rattle.answers.specs.Stages.{leavesBytes}
 use Rattle.make_checks.specs.Order.{tested, passed-both, rows-refused, rows-pass}
 use Rattle.make_file.specs.Left.{fitting-of}
@@ -10,11 +11,11 @@ use Rattle.make_file.proofs.make_rows.Statement.{statement}
 use Rattle.make_file.proofs.make_rows.Tie as tie
 
 abbrev start : tie.Else1 → tie.Start
-start c = c .before .before .before
+start c = c .before .before .before .before
 
 -- past the tests
 passed : (c : tie.Else1) → (let a = start c .args in numberOf (tested (a .c .n) (a .c .x) (a .c .t) (a .c .wanted) (a .h .now) (a .e .now) (a .u .now) (length (a .file .now))) ≡ 0)
-passed c = sym (c .before .check .ensures) ∙ c .if1 .left
+passed c = sym (numbered (c .before .before .check .ensures)) ∙ c .if1 .left
 
 check-requires : tie.Need-check-requires
 check-requires c κs = search needs
@@ -24,7 +25,7 @@ refused-requires c κs = search needs
 
 returns : tie.Need-returns
 returns c =
-    let k = c .before .before in
+    let k = c .before .before .before in
     let a = k .before .before .args in
     (λ i. leavesBytes (c .refused .ensures i) (a .file .now))
     ∙ rows-refused (a .c .n) (a .c .x) (a .c .t) (a .c .wanted) (a .h .now) (a .e .now) (a .u .now) (a .file .now) (k .check .result) (k .check .ensures) (c .before .if1 .taken)

@@ -7,9 +7,10 @@ use native.Mathlib.Omega.{arith}
 use borrow.Author.Needs.{needs}
 use borrow.Author.Tests.{not-true, not-false}
 use Rattle.rule.specs.Ranges.{cellsAllowed}
-use Rattle.rule.specs.Refusals.{numberOf}
+use Rattle.rule.specs.Refusals.{numberOf, faultOf}
 use Rattle.rule.specs.File.{countOf}
 use Rattle.checks.specs.Tests.{both}
+use Rattle.checks.specs.Numbers.{numbered}
 use Rattle.checks.specs.Facts.{cells-few}
 use Rattle.form.specs.Reader.{headTests, shapePasses, bodyTests, by-head, by-shape, by-body}
 use Rattle.opened.specs.Opened.{head-passed}
@@ -23,10 +24,10 @@ fits s = let a = s .args in lentFit (a .h .now) (a .e .now) (a .u .now) (a .v .n
 
 -- past the head
 abbrev start : tie.Else1 → tie.Start
-start c = c .before .before .before
+start c = c .before .before .before .before
 
 head-0 : (c : tie.Else1) → numberOf (headTests (start c .args .s .now)) ≡ 0
-head-0 c = sym (c .before .head .ensures) ∙ c .if1 .left
+head-0 c = sym (numbered (c .before .before .head .ensures)) ∙ c .if1 .left
 
 -- N is the file's, and the test of 1 is the rule's
 abbrev begin : tie.After-shaped → tie.Start
@@ -51,9 +52,9 @@ head-requires c κs = search needs
 
 returns : tie.Need-returns
 returns c =
-    let s = c .before .before .before in
-    let e = c .before .head .ensures in
-    e ∙ by-head (fits s) [] (s .args .s .now) (λ z. c .if1 .taken (e ∙ z))
+    let s = c .before .before .before .before in
+    let e = c .before .before .head .ensures in
+    e ∙ by-head (fits s) [] (s .args .s .now) (λ z. c .if1 .taken (numbered e ∙ z))
 
 count-at-requires : tie.Need-count-at-requires
 count-at-requires c κs = omega (arith, head-passed (start c .args .s .now) (head-0 c))
@@ -82,7 +83,7 @@ returns-3 c =
     let k = c .before .before in
     let s = begin k in
     c .body .ensures
-    ∙ ap (λ n. numberOf (bodyTests n [] (s .args .s .now))) (sym (cells-is k))
+    ∙ ap (λ n. faultOf (bodyTests n [] (s .args .s .now))) (sym (cells-is k))
     ∙ by-body (fits s) [] (s .args .s .now) (head-0 (k .before .before)) (sym (shaped-is k) ∙ not-false _ (c .before .if2 .left))
 
 pub check-lent-spec : {M : Type 1} → statement M

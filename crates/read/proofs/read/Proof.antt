@@ -5,6 +5,7 @@ use native.Mathlib.Omega.{arith}
 use Rattle.rule.specs.Channel.{Channel}
 use Rattle.rule.specs.Counted.{counted}
 use Rattle.little.specs.Numbers.{AreBytes}
+use Rattle.checks.specs.Numbers.{numbered}
 use Rattle.answers.specs.Stages.{leaves}
 use Rattle.read.specs.Left.{lentFit, opens-lent, refused-by, stored}
 use Rattle.opened.specs.Opened.{Opened, opened-of}
@@ -22,8 +23,8 @@ lent c =
     counted (a .c) (a .h .now) (a .e .now) (a .u .now) (a .v .now) (a .q .now) (a .f .now)
 
 -- past the tests
-passed : (c : tie.Else1) → (let l = lent (c .before) in Opened (lentFit (l .h) (l .e) (l .u) (l .v) (l .Q) (l .F)) [] (start (c .before) .args .s .now))
-passed c = opened-of _ _ _ (sym (c .if1 .left) ∙ c .before .check-lent .ensures)
+passed : (c : tie.Else1) → (let l = lent (c .before .before) in Opened (lentFit (l .h) (l .e) (l .u) (l .v) (l .Q) (l .F)) [] (start (c .before .before) .args .s .now))
+passed c = opened-of _ _ _ (sym (c .if1 .left) ∙ numbered (c .before .before .check-lent .ensures))
 
 -- the entries of what is read are bytes
 bytes : (c : tie.After-check-lent) → AreBytes (start c .args .s .now)
@@ -55,7 +56,7 @@ same-length-6 c = search needs
 
 returns : tie.Need-returns
 returns c =
-    let k = c .before .before in (
+    let k = c .before .before .before in (
       (λ i. leaves (c .refused .ensures i) (lent k)) ∙ refused-by (lent k) (start k .args .s .now) _ (k .check-lent .ensures) (c .before .if1 .taken),
       bytes k,
     )
@@ -88,8 +89,8 @@ returns-2 : tie.Need-returns-2
 returns-2 c =
     let k = c .before .before .before .before .before .before .before in
     let o = k .before .before .before .before .before .before .before in (
-      (λ i. leaves (c .accepted .ensures i) (k .opened .ensures i)) ∙ stored (lent (o .before)) (start (o .before) .args .s .now) (passed o),
-      bytes (o .before),
+      (λ i. leaves (c .accepted .ensures i) (k .opened .ensures i)) ∙ stored (lent (o .before .before)) (start (o .before .before) .args .s .now) (passed o),
+      bytes (o .before .before),
     )
 
 pub read-spec : {M : Type 1} → statement M

@@ -1,6 +1,6 @@
 -- `reader::check_opened` meets its contract: what it opens is the file's channel. Assumes nothing.
 use mathlib.Core.Path.{_∙_, ap}
-use Rattle.rule.specs.Refusals.{numberOf}
+use Rattle.rule.specs.Refusals.{faultOf}
 use Rattle.rule.specs.Checks.{checked}
 use Rattle.checks.specs.Allowed.{pouredRows}
 use borrow.Author.Needs.{needs}
@@ -35,7 +35,7 @@ returns : tie.Need-returns
 returns c =
     let o = c .before .before .before .before .before .before .before .before .before .before .before .before .before in
     let a = o .before .before .before .before .before .before .before .before .args in
-    c .check .ensures ∙ ap (λ d. numberOf (checked d (pouredRows (a .poured) (a .w .now)))) (o .opened .ensures)
+    c .check .ensures ∙ ap (λ d. faultOf (checked d (pouredRows (a .poured) (a .w .now)))) (o .opened .ensures)
 
 pub check-opened-spec : {M : Type 1} → statement M
 check-opened-spec =

@@ -10,6 +10,7 @@ use Rattle.rule.specs.Counted.{counted, after}
 use Rattle.rule.specs.Calls.{stepCall}
 use Rattle.rule.specs.Refusals.{numberOf}
 use Rattle.rule.specs.Checks.{checked}
+use Rattle.checks.specs.Numbers.{numbered}
 use Rattle.answers.specs.Stages.{leaves}
 use Rattle.run_for.specs.Runs.{nothing-poured, now, Running, run-early, run-starts, run-room, run-stops, run-on, run-ends}
 use borrow.Author.Needs.{needs}
@@ -17,11 +18,11 @@ use Rattle.run_for.proofs.run_for.Statement.{statement}
 use Rattle.run_for.proofs.run_for.Tie as tie
 
 abbrev Inv-loop : tie.InvT-loop
-Inv-loop most k h e₀ u₀ v₀ q₀ f₀ number n accepted₀ count₀ steps₀ e u v q f accepted count steps =
+Inv-loop most k h e₀ u₀ v₀ q₀ f₀ n accepted₀ count₀ steps₀ e u v q f accepted count steps =
     Running most (counted k h e₀ u₀ v₀ q₀ f₀) accepted e u v q f count steps
 
 abbrev μ-loop : tie.MeasureT-loop
-μ-loop most k h e₀ u₀ v₀ q₀ f₀ number n accepted₀ count₀ steps₀ e u v q f accepted count steps = steps
+μ-loop most k h e₀ u₀ v₀ q₀ f₀ n accepted₀ count₀ steps₀ e u v q f accepted count steps = steps
 
 -- the channel that a run was lent, after its checks
 abbrev lent : tie.After-check Inv-loop μ-loop → Channel
@@ -37,13 +38,13 @@ abbrev turn : tie.After-step Inv-loop μ-loop → tie.In-loop Inv-loop μ-loop
 turn c = c .before .before .before .before .before .before .before .before
 
 abbrev first : tie.In-loop Inv-loop μ-loop → tie.After-check Inv-loop μ-loop
-first c = c .before .before .before .before .before
+first c = c .before .before .before .before .before .before
 
 abbrev lent-counts : tie.After-step Inv-loop μ-loop → Counts
 lent-counts c = first (turn c) .before .before .before .before .before .before .args .c
 
-passed : (c : tie.Else1 Inv-loop μ-loop) → 0 ≡ numberOf (checked (lent (c .before)) [])
-passed c = omega (arith, c .if1 .left, c .before .check .ensures)
+passed : (c : tie.Else1 Inv-loop μ-loop) → 0 ≡ numberOf (checked (lent (c .before .before)) [])
+passed c = sym (c .if1 .left) ∙ numbered (c .before .before .check .ensures)
 
 -- the counts that a step is lent
 stepped-from : (c : tie.After-step Inv-loop μ-loop) → (let a = c .before .before .before .before .before .before .before in a .after .result ≡ after (lent-counts c) (turn c .before .loop .accepted))
@@ -72,17 +73,17 @@ same-length-5 c = search needs
 
 returns : tie.Need-returns Inv-loop μ-loop
 returns c =
-    let k = c .before .before in
+    let k = c .before .before .before in
     ap (λ a. leaves a (lent k)) (c .refused .ensures) ∙ run-early (most k) (lent k) (k .check .result) (k .check .ensures) (c .before .if1 .taken)
 
 sub-fewer : tie.Need-sub-fewer Inv-loop μ-loop
-sub-fewer c = run-room (lent (c .before .before)) (passed (c .before))
+sub-fewer c = run-room (lent (c .before .before .before)) (passed (c .before))
 
 fewer-requires : tie.Need-fewer-requires Inv-loop μ-loop
 fewer-requires c κs = search needs
 
 loop-holds : tie.Need-loop-holds Inv-loop μ-loop
-loop-holds c = rw (c .fewer .ensures) (run-starts (most (c .before .before .before)) (lent (c .before .before .before)) (passed (c .before .before)))
+loop-holds c = rw (c .fewer .ensures) (run-starts (most (c .before .before .before .before)) (lent (c .before .before .before .before)) (passed (c .before .before)))
 
 after-requires : tie.Need-after-requires Inv-loop μ-loop
 after-requires c κs = search needs
@@ -164,7 +165,7 @@ same-length-15 c = search needs
 returns-3 : tie.Need-returns-3 Inv-loop μ-loop
 returns-3 c =
     let l = c .before .before in
-    let k = l .before .before .before .before in
+    let k = l .before .before .before .before .before in
     ap (λ a. leaves a (now (most k) (lent k) (l .loop .accepted) (l .loop .e) (l .loop .u) (l .loop .v) (l .loop .q) (l .loop .f))) (c .at-end .ensures)
     ∙ run-ends (most k) (lent k) (l .loop .inv) (omega (arith, c .before .loop-test .left))
 

@@ -34,7 +34,7 @@ same-length-5 : tie.Need-same-length-5
 same-length-5 c = search needs
 
 returns : tie.Need-returns
-returns c = step-refused (attempted (c .before)) (c .if1 .taken)
+returns c = step-refused (attempted (c .before .before)) (c .if1 .taken)
 
 -- the attempt that was accepted, from where its rows are stored, and from the end
 abbrev accepted : tie.After-keep-cells → tie.Else1
@@ -44,13 +44,13 @@ abbrev stored : tie.After-f → tie.After-keep-cells
 stored c = c .before .before .before .before .before .before .before .before .before .before
 
 keep-cells-requires : tie.Need-keep-cells-requires
-keep-cells-requires c κs = let z = c .before .before .before .before .before .before .before .before .before .before .before .before in cells-ask (attempted (z .before)) (z .if1 .left)
+keep-cells-requires c κs = let z = c .before .before .before .before .before .before .before .before .before .before .before .before in cells-ask (attempted (z .before .before)) (z .if1 .left)
 
 push-levels-requires : tie.Need-push-levels-requires
-push-levels-requires c κs = let z = accepted (c .before .before .before .before .before .before .before) in levels-ask (attempted (z .before)) (z .if1 .left)
+push-levels-requires c κs = let z = accepted (c .before .before .before .before .before .before .before) in levels-ask (attempted (z .before .before)) (z .if1 .left)
 
 add-accepted : tie.Need-add-accepted
-add-accepted c = let z = accepted (stored c) in count-fits (attempted (z .before)) (z .if1 .left)
+add-accepted c = let z = accepted (stored c) in count-fits (attempted (z .before .before)) (z .if1 .left)
 
 same-length-6 : tie.Need-same-length-6
 same-length-6 c = search needs
@@ -72,7 +72,7 @@ returns-2 c =
     let z = accepted (stored c) in
     let cells = stored c .keep-cells .ensures in
     let levels = c .before .before .push-levels .ensures in
-    step-accepted (attempted (z .before)) (z .if1 .left) _ _ _ _ _ _ (add-one (z .before .before .before .before .before .before .before .args .c .accepted)) (cells .0) (cells .1) (cells .2) (levels .0) (levels .1)
+    step-accepted (attempted (z .before .before)) (z .if1 .left) _ _ _ _ _ _ (add-one (z .before .before .before .before .before .before .before .before .args .c .accepted)) (cells .0) (cells .1) (cells .2) (levels .0) (levels .1)
 
 pub step-spec : {M : Type 1} → statement M
 step-spec =

@@ -3,7 +3,7 @@ use mathlib.Core.Path.{_≡_, sym, _∙_, ap}
 use native.Mathlib.Omega.{arith}
 use Rattle.rule.specs.declared.Answer.{Answer}
 use Rattle.rule.specs.declared.Counts.{Counts}
-use Rattle.rule.specs.Refusals.{numberOf}
+use Rattle.rule.specs.Refusals.{faultOf}
 use Rattle.rule.specs.File.{readWith}
 use Rattle.rule.specs.Calls.{rowIn}
 use Rattle.little.specs.Numbers.{AreBytes}
@@ -21,10 +21,10 @@ abbrev start : tie.After-answer → tie.Start
 start c = c .before .before .before .before .before
 
 -- the reader's answer, of a call that pours or not
-answered : (c : tie.After-answer) → (let a = start c .args in c .answer .result ≡ early (numberOf (readWith (fitsIn (poursOf (a .call)) (a .poured .now)) (pouredRows (poursOf (a .call)) (rowIn (a .poured .now))) (a .file .now))))
+answered : (c : tie.After-answer) → (let a = start c .args in c .answer .result ≡ early (faultOf (readWith (fitsIn (poursOf (a .call)) (a .poured .now)) (pouredRows (poursOf (a .call)) (rowIn (a .poured .now))) (a .file .now))))
 answered c =
     let a = start c .args in
-    c .answer .ensures ∙ ap (λ b. early (numberOf (readWith (fitsIn b (a .poured .now)) (pouredRows b (rowIn (a .poured .now))) (a .file .now)))) (c .before .pours .ensures)
+    c .answer .ensures ∙ ap (λ b. early (faultOf (readWith (fitsIn b (a .poured .now)) (pouredRows b (rowIn (a .poured .now))) (a .file .now)))) (c .before .pours .ensures)
 
 -- the entries of what is lent are bytes
 bytes : (c : tie.After-answer) → AreBytes (start c .args .file .now)

@@ -7,6 +7,7 @@ use Rattle.rule.specs.Refusals.{Outcome, numberOf}
 use Rattle.rule.specs.Flux.{fluxes}
 use Rattle.rule.specs.Make.{reducedVelocities}
 use Rattle.rule.specs.Make.{makeChecked}
+use Rattle.checks.specs.Numbers.{numbered}
 use Rattle.checks.specs.Made.{Makeable, makeable-of}
 use Rattle.work_out.specs.Made.{Kept, kept-velocities, kept-fluxes, given, moving, ready, stops-checked, stops-7, stops-9, all-kept}
 use Rattle.work_out.proofs.work_out.Statement.{statement}
@@ -24,10 +25,10 @@ Qs s = let a = s .args in fluxes (a .c .n) (a .c .x) (a .h .now) (a .e .now) (a 
 
 -- past the checks
 abbrev start : tie.Else1 → tie.Start
-start c = c .before .before
+start c = c .before .before .before
 
 passed : (c : tie.Else1) → numberOf (checked (start c)) ≡ 0
-passed c = sym (c .before .check-made .ensures) ∙ c .if1 .left
+passed c = sym (numbered (c .before .before .check-made .ensures)) ∙ c .if1 .left
 
 makeable : (c : tie.Else1) → (let a = start c .args in Makeable (a .c .n) (a .c .x) (a .c .t) (a .c .wanted) (a .h .now) (a .e .now) (a .u .now))
 makeable c = let a = start c .args in makeable-of (a .c .n) (a .c .x) (a .c .t) (a .c .wanted) (a .h .now) (a .e .now) (a .u .now) (passed c)
@@ -50,7 +51,7 @@ nothing-requires c κs = search needs
 
 returns : tie.Need-returns
 returns c =
-    let k = c .before .before in
+    let k = c .before .before .before in
     let a = k .before .args in
     c .nothing .ensures ∙ stops-checked (a .c .n) (a .c .x) (a .c .t) (a .c .wanted) (a .h .now) (a .e .now) (a .u .now) _ (k .check-made .ensures) (c .before .if1 .taken)
 

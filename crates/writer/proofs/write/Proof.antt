@@ -9,6 +9,7 @@ use Rattle.rule.specs.Channel.{Channel}
 use Rattle.rule.specs.Counted.{counted}
 use Rattle.rule.specs.Refusals.{numberOf}
 use Rattle.rule.specs.Checks.{checked}
+use Rattle.checks.specs.Numbers.{numbered}
 use Rattle.checks.specs.Allowed.{allowed-of}
 use Rattle.put.specs.Asked.{writable-of}
 use Rattle.writer.specs.Left.{write-checked, write-unfit, write-fit}
@@ -22,11 +23,11 @@ given c =
     counted (a .c) (a .h .now) (a .e .now) (a .u .now) (a .v .now) (a .q .now) (a .f .now)
 
 -- past the checks
-passed : (c : tie.Else1) → numberOf (checked (given (c .before)) []) ≡ 0
-passed c = sym (c .before .check .ensures) ∙ c .if1 .left
+passed : (c : tie.Else1) → numberOf (checked (given (c .before .before)) []) ≡ 0
+passed c = sym (numbered (c .before .before .check .ensures)) ∙ c .if1 .left
 
-some : (c : tie.Else1) → (1 ≤ given (c .before) .N) × (given (c .before) .N ≤ mostCells)
-some c = let k = allowed-of (given (c .before)) [] (passed c) .cells in (omega (arith, k .least), k .most)
+some : (c : tie.Else1) → (1 ≤ given (c .before .before) .N) × (given (c .before .before) .N ≤ mostCells)
+some c = let k = allowed-of (given (c .before .before)) [] (passed c) .cells in (omega (arith, k .least), k .most)
 
 check-requires : tie.Need-check-requires
 check-requires c κs = search needs
@@ -36,7 +37,7 @@ refused-requires c κs = search needs
 
 returns : tie.Need-returns
 returns c =
-    let k = c .before .before in
+    let k = c .before .before .before in
     let d = k .before .before .args .d .now in
     write-checked (given k) d (c .refused .result) (k .check .result) (c .refused .ensures) (k .check .ensures) (c .before .if1 .taken)
 
@@ -49,11 +50,11 @@ refused-requires-2 c κs = search needs
 returns-2 : tie.Need-returns-2
 returns-2 c =
     let k = c .before .before .before in
-    let d = k .before .before .before .args .d .now in
-    write-unfit (given (k .before)) d (c .refused2 .result) (passed k) (c .refused2 .ensures) (λ e. omega (arith, e, c .before .if2 .taken))
+    let d = k .before .before .before .before .args .d .now in
+    write-unfit (given (k .before .before)) d (c .refused2 .result) (passed k) (c .refused2 .ensures) (λ e. omega (arith, e, c .before .if2 .taken))
 
 put-requires : tie.Need-put-requires
-put-requires c κs = let k = c .before .before .before in (omega arith, writable-of (given (k .before)) [] (passed k))
+put-requires c κs = let k = c .before .before .before in (omega arith, writable-of (given (k .before .before)) [] (passed k))
 
 accepted-requires : tie.Need-accepted-requires
 accepted-requires c κs = search needs
@@ -65,8 +66,8 @@ returns-3 : tie.Need-returns-3
 returns-3 c =
     let p = c .before .before .before in
     let k = p .before .before .before .before in
-    let d = k .before .before .before .args .d .now in
-    write-fit (given (k .before)) d (c .accepted .result) (passed k) (p .put .last .0) (c .accepted .ensures) (p .put .ensures) (omega (arith, p .before .before .if2 .left))
+    let d = k .before .before .before .before .args .d .now in
+    write-fit (given (k .before .before)) d (c .accepted .result) (passed k) (p .put .last .0) (c .accepted .ensures) (p .put .ensures) (omega (arith, p .before .before .if2 .left))
 
 pub write-spec : {M : Type 1} → statement M
 write-spec =

@@ -1,0 +1,189 @@
+/* Calls with faults at drawn places, and where the faults of a call's input lie: values outside their ranges, cells with
+   too little water, rows that are not dominant. */
+#ifndef FAULTS_H
+#define FAULTS_H
+
+#include "scenes.h"
+
+static const struct {
+    int64_t low, high;
+} ranges[ROWS] = {
+    {1, 20000},
+    {-20000000, 20000000},
+    {-20000000, 20000000},
+    {-2000000000, 2000000000},
+    {-1000000000000000, 1000000000000000},
+    {-100000000000, 100000000000},
+    {-1000000, 1000000},
+};
+
+static bool in_range(int row, int64_t n) { return n >= ranges[row].low && n <= ranges[row].high; }
+static size_t levels_of(int row) { return row == ROW_Q || row == ROW_F ? 3 : 1; }
+
+/* Whether a call reads the row. */
+static bool reads(enum kind kind, int row) { return row == ROW_s ? kind == STEP : row <= ROW_u || kind != MAKE; }
+
+/* One of n places, counted from 0: the first, the last or another. */
+static size_t any_place(size_t n)
+{
+    uint64_t which = draw() % 3;
+    return which == 0 ? 0 : which == 1 ? n - 1 : (size_t)between(1, (int64_t)n - 2);
+}
+
+static void put_outside(struct call *c, int row)
+{
+    size_t levels = levels_of(row), n = c->len[row] / levels, level = draw() % levels, place = any_place(n);
+    int64_t further = one_in(2) ? 1 : magnitude(1000000000);
+    int64_t beyond = one_in(2) ? ranges[row].low - further : ranges[row].high + further;
+    c->row[row][level * n + place] = one_in(5) ? PICK(INT64_MIN, INT64_MAX) : beyond;
+}
+
+/* A cell with less than 1,000 um of water. */
+static void put_dry(struct call *c)
+{
+    size_t j = any_place((size_t)c->N);
+    int64_t e = 1000 - 1000 * c->row[ROW_h][j] - magnitude(1000000);
+    c->row[ROW_e][j] = e < -20000000 ? -20000000 : e;
+}
+
+/* A cell a fifth as deep as the others, beside which its row is not dominant. */
+static void put_dip(struct call *c, int64_t depth)
+{
+    size_t j = any_place((size_t)c->N);
+    c->row[ROW_h][j] = depth / 5;
+}
+
+/* What is put at fault: a row, or one of these. */
+enum { FAULT_DRY = ROWS, FAULT_DIP, FAULTS };
+
+static int any_fault(enum kind kind)
+{
+    int fault;
+    do
+        fault = (int)(draw() % FAULTS);
+    while (fault < ROWS && !reads(kind, fault));
+    return fault;
+}
+
+/* Deep water over narrow cells with one to four faults, as often as not of the same kind. */
+static void faulty(struct call *c, enum kind kind)
+{
+    int64_t X = between(10, 4000), depth = between(5 * X, 20000), heights = magnitude(200 * depth - 1000);
+    int64_t count = PICK(1, 1, 2, 3, 4);
+    int fault = any_fault(kind);
+    lengths(c, one_in(6) ? (size_t)PICK(255, 256) : (size_t)between(8, 14));
+    c->X = (uint64_t)X, c->T = (uint64_t)between(1, 100), c->wanted = (uint64_t)between(1, 3);
+    c->accepted = one_in(3) ? c->wanted : 0;
+    for (size_t j = 0; j < c->N; j++) {
+        c->row[ROW_h][j] = depth;
+        c->row[ROW_e][j] = between(-heights, heights);
+        c->row[ROW_u][j] = between(-20000000, 20000000);
+        c->row[ROW_s][j] = between(-1000000, 1000000);
+    }
+    any_levels(c);
+    for (int64_t i = 0; i < count; i++) {
+        if (fault == FAULT_DRY)
+            put_dry(c);
+        else if (fault == FAULT_DIP)
+            put_dip(c, depth);
+        else
+            put_outside(c, fault);
+        if (one_in(2))
+            fault = any_fault(kind);
+    }
+}
+
+/* Water of which some cells are as low as allowed, and fall dry: in a step by what is poured, by the prediction's
+   movement or by the first correction's, in a run by movement, in a filter pass by their neighbours. */
+static void drying(struct call *c, enum kind kind)
+{
+    int64_t depth = between(1, 20000), high = magnitude(20000000), X = between(10, 5000), T = PICK(1, 10, 50, 100);
+    int64_t unit = 1000000 * X / T; /* levels that are all one unit move 1 */
+    bool poured = kind == STEP && one_in(2), late = one_in(2);
+    lengths(c, one_in(10) ? (size_t)between(8, 256) : (size_t)between(8, 14));
+    for (int i = 0; i < ROWS; i++)
+        memset(c->row[i], 0, c->len[i] * sizeof(int64_t));
+    c->X = (uint64_t)X, c->T = (uint64_t)T, c->wanted = 3, c->accepted = (uint64_t)between(0, 2);
+    for (size_t j = 0; j < c->N; j++) {
+        c->row[ROW_h][j] = depth;
+        c->row[ROW_e][j] = 1000 - 1000 * depth + (one_in(2) ? high : 0);
+    }
+    if (kind == FILTER)
+        return;
+    for (int64_t i = between(1, 3); i > 0; i--) {
+        size_t j = any_place((size_t)c->N), faces = (size_t)c->N - 1, face = j < faces ? j : j - 1;
+        int64_t moved = (j < faces ? 1 : -1) * between(2, 9) * unit;
+        c->row[ROW_e][j] = 1000 - 1000 * depth;
+        if (poured)
+            c->row[ROW_s][j] = -between(1, 1000000);
+        else
+            for (size_t level = 0; level < 3; level++)
+                c->row[ROW_Q][level * faces + face] = late ? (int64_t[]){0, -5, -16}[level] * moved * 8 / 3 : moved;
+    }
+}
+
+/* A row as it is searched for faults; the levels are three, and the water depths and the dominant rows two more. */
+struct searched {
+    unsigned number;
+    size_t len;
+    bool at[CELLS];
+};
+enum { SEARCHED = 13 };
+
+static bool dry_at(const struct call *c, size_t j)
+{
+    int64_t h = c->row[ROW_h][j], e = c->row[ROW_e][j];
+    return in_range(ROW_h, h) && in_range(ROW_e, e) && 1000 * h + e < 1000;
+}
+
+/* Whether row j, of depths in range, is not dominant. A wall drops the coefficient beside it and adds to the row's own. */
+static bool weak_at(const struct call *c, size_t j)
+{
+    const int64_t *row = c->row[ROW_h], h = row[j], X = (int64_t)c->X, walls = (j == 0) + (j + 1 == c->N);
+    int64_t others = 0;
+    for (size_t i = j > 0 ? j - 1 : 0; i <= j + 1 && i < c->N; i++) {
+        if (!in_range(ROW_h, row[i]))
+            return false;
+        if (i != j)
+            others += llabs(h * (1409805 * h - 5310000 * row[i]));
+    }
+    return 10000000 * X * X + (7800390 + walls * 3900195) * h * h <= others;
+}
+
+/* Where the input of a call has faults, in the order in which they are told. Its lengths and counts are allowed. */
+static void find_faults(enum kind kind, const struct call *c, struct searched *s)
+{
+    memset(s, 0, SEARCHED * sizeof *s);
+    for (int row = 0; row < ROWS; row++)
+        for (size_t level = 0; level < levels_of(row); level++, s++) {
+            s->number = 31 + (unsigned)row;
+            s->len = reads(kind, row) ? c->len[row] / levels_of(row) : 0;
+            for (size_t j = 0; j < s->len; j++)
+                s->at[j] = !in_range(row, c->row[row][level * s->len + j]);
+        }
+    s[0].number = 4, s[1].number = 5;
+    s[0].len = s[1].len = (size_t)c->N;
+    for (size_t j = 0; j < c->N; j++) {
+        s[0].at[j] = dry_at(c, j);
+        s[1].at[j] = weak_at(c, j);
+    }
+}
+
+/* The lowest place with a fault, counted from 1, or 0. */
+static uint64_t lowest_of(const struct searched *s)
+{
+    for (size_t j = 0; j < s->len; j++)
+        if (s->at[j])
+            return j + 1;
+    return 0;
+}
+
+static long faults_in(const struct searched *s)
+{
+    long faults = 0;
+    for (size_t j = 0; j < s->len; j++)
+        faults += s->at[j];
+    return faults;
+}
+
+#endif
