@@ -2,7 +2,7 @@
 ghost use mathlib.Core.Path.{_≡_};
 ghost use mathlib.Core.Bool.{_&&_};
 ghost use mathlib.Core.List.{[], _∷_};
-ghost use Prim.Native.Nat.{_≤_};
+ghost use Prim.Native.Nat.{_<_, _≤_};
 ghost use lib.IntN.{pos};
 ghost use lib.ListN.{length};
 ghost use lib.Signed.{leZ};
@@ -17,9 +17,17 @@ ghost use Rattle.coefficients.specs.Ready.{Bed};
 ghost use Rattle.whole.specs.Row.{Within};
 ghost use Rattle.checks.specs.Allowed.{pouredRows};
 ghost use Rattle.checks.specs.Asked.{Water};
-ghost use Rattle.checks.specs.Facts.{isDeep};
+ghost use Rattle.checks.specs.Facts.{depthAt, isDeep};
 ghost use Rattle.rule.specs.Make.{makeChecked};
 ghost use Rattle.checks.specs.Order.{formed};
+
+// At least 1,000 µm of water in cell j + 1.
+fn wet_at(h: &[i64], e: &[i64], n: usize, j: usize) -> bool
+    requires { ⌜ Water n (now h) (now e) × (j < n) ⌝ }
+    ensures { λ r. ⌜ r ≡ leZ (pos leastWater) (depthAt (now (h .entry)) (now (e .entry)) j) ⌝ }
+{
+    rule::LEAST_WATER <= 1000 * h[j] + e[j]
+}
 
 // At least 1,000 µm of water in every cell. The loop goes to its end, so that cells are tested side by side.
 fn deep(h: &[i64], e: &[i64], n: usize) -> bool
@@ -29,7 +37,7 @@ fn deep(h: &[i64], e: &[i64], n: usize) -> bool
     let mut fine = true;
     let mut j = 0;
     while j < n {
-        fine = fine & (rule::LEAST_WATER <= 1000 * h[j] + e[j]);
+        fine = fine & wet_at(h, e, n, j);
         j += 1;
     }
     fine
@@ -43,7 +51,7 @@ fn search_dry(h: &[i64], e: &[i64], n: usize) -> u64
     let mut place = 0;
     let mut j = 0;
     while j < n {
-        place = places::lower(place, rule::LEAST_WATER <= 1000 * h[j] + e[j], j);
+        place = places::lower(place, wet_at(h, e, n, j), j);
         j += 1;
     }
     place
