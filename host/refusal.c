@@ -225,6 +225,8 @@ void say_mend(const uint8_t *file, uint64_t answer, bool poured)
             say_wider(of, "or better ");
         if (poured)
             say("or %s", pour_less);
+        if (number == PATHPETAL_DEPTH)
+            say("or make the water deeper in cell %u, which fell dry", pathpetal_place(answer));
         return;
     }
     if (poured)

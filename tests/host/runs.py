@@ -159,6 +159,11 @@ def deeper(cell):
         r"often \(every 20 steps\) or narrower cells"
 
 
+def or_deeper(cell):
+    """The line after advice about the time step."""
+    return f"\npathpetal: or make the water deeper in cell {cell}, which fell dry"
+
+
 def root(number):
     """The least whole number whose square is at least a fraction (above, below)."""
     return math.isqrt(-(-number[0] // number[1]) - 1) + 1
@@ -194,11 +199,11 @@ def advice():
         elif longest >= 1:
             told["a time step"] += 1
             words = f"to mend: take a shorter time step: at most {longest:,} ms for cells of {width:,} mm and a " \
-                rf"depth of {depth:,} mm {why}\npathpetal: or {LESS}"
+                rf"depth of {depth:,} mm {why}\npathpetal: or {LESS}{or_deeper(4)}"
         else:
             told["a width"] += 1
             words = f"to mend: take wider cells: at least {root((981 * depth, 12250)):,} mm for a time step of 1 ms " \
-                rf"and a depth of {depth:,} mm {why}\npathpetal: or {LESS}"
+                rf"and a depth of {depth:,} mm {why}\npathpetal: or {LESS}{or_deeper(4)}"
         go("run", "a.channel", "-o", "a.end", "--pour", "a.pour", status=OPEN, name=f"{width}, {depth}, {step}",
             says=rf"\(number 4, stage 0\){dry(4, width)}pathpetal: {words}\npathpetal: a.end: open: 0 of 9 steps "
                  "accepted")
@@ -253,7 +258,7 @@ def refused_steps():
     go("run", "rough.channel", "-o", "rough.end", "--staff", 4, "--record", "rough.csv.record", status=OPEN,
        says=rf"step 587 of 2,000 was refused in its correction 2 \(number 4, stage 2\){dry(20, 200)}pathpetal: to "
        r"mend: take a shorter time step: at most 22 ms for cells of 200 mm and a depth of 1,000 mm \(the Courant number is "
-       r"1.57, and 0.35 is advised\)\npathpetal: rough.end: open: 586 of 2,000 steps accepted")
+       rf"1.57, and 0.35 is advised\){or_deeper(20)}\npathpetal: rough.end: open: 586 of 2,000 steps accepted")
     end_is_true("rough.end", "refused step", False)
     check(counts(read("rough.end")) == (20, 586, 2000), "586 steps are kept")
     check(whole_record(read("rough.csv.record.open"), "open: 586 of 2000 steps accepted")

@@ -34,8 +34,8 @@ fn tell(file: &mut [u8]) {
     let number = answer.number;
     match number {
         0 => {}
-        1..=15 => say(b"run_file: nothing is written: ", file),
-        _ => say(b"run_file: the run ended open: ", file),
+        16 => say(b"run_file: the run ended open: ", file),
+        _ => say(b"run_file: nothing is written: ", file),
     }
 }
 
