@@ -15,6 +15,15 @@ use Rattle.rule.specs.Rows.{all, lowestAfter, lowest}
 unfoldable pub lower : ℕ → Bool → ℕ → ℕ
 lower place passes k = cond (eqb place 0 && not passes) (k + 1) place
 
+-- an entry that does not pass, where none was found before it
+pub lower-found : (place : ℕ) (passes : Bool) (k : ℕ) → eqb place 0 && not passes ≡ true → k + 1 ≡ lower place passes k
+unfolding lower
+lower-found place passes k e = rw e
+
+pub lower-stays : (place : ℕ) (passes : Bool) (k : ℕ) → eqb place 0 && not passes ≡ false → place ≡ lower place passes k
+unfolding lower
+lower-stays place passes k e = rw e
+
 module _ {A : Type 0} (p : A → Bool) where
   by-head : (k m : ℕ) (b c : Bool) (rest after : ℕ) → rest ≡ lower after c m → cond b rest (suc k) ≡ lower (cond b after (suc k)) c m
   unfolding lower
