@@ -141,6 +141,8 @@ static bool weak_at(const struct call *c, size_t j)
 {
     const int64_t *row = c->row[ROW_h], h = row[j], X = (int64_t)c->X, walls = (j == 0) + (j + 1 == c->N);
     int64_t others = 0;
+    if (!in_range(ROW_h, h))
+        return false;
     for (size_t i = j > 0 ? j - 1 : 0; i <= j + 1 && i < c->N; i++) {
         if (!in_range(ROW_h, row[i]))
             return false;

@@ -15,7 +15,7 @@ fn refused(fault: rule::Fault) -> advance::Advanced
     }
 }
 
-// The whole step, but for what it stores: 1 to 5, then 11, then the stages.
+// The whole step, but for what it stores: the input checks, then 11, then the stages.
 pub fn attempt(
     c: rule::Counts,
     h: &[i64],

@@ -1,4 +1,4 @@
--- Refusal numbers: what the checks of an input refuse by, 1 to 5 and 31 to 37, outside the stages of a step. Assumes nothing.
+-- Refusal numbers: what the checks of an input refuse by, 1, 2, 4, 5 and 31 to 37, outside the stages of a step. Assumes nothing.
 use Prim.Native.Nat.{ℕ}
 use mathlib.Core.Path.{refl}
 use mathlib.Core.List.{List, [], _∷_}

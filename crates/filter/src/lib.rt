@@ -12,7 +12,7 @@ ghost use Rattle.motion.specs.Weights.{moving};
 ghost use Rattle.stage.specs.Trials.{trialOf};
 ghost use Rattle.filter.specs.Asked.{Smoothing};
 
-// The checks 1 to 5, then 11: the first that fails.
+// The input checks, then 11: the first that fails.
 fn ready(
     c: rule::Counts,
     h: &[i64],

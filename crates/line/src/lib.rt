@@ -21,7 +21,7 @@ fn held_line(s: &[u8], d: &mut [u8]) -> usize
     text::channel_line(d, n, accepted, wanted, &e[..cells])
 }
 
-// What the printing program prints of the bytes s: 1 to 37 are refusals, and 0 is none.
+// What the printing program prints of the bytes s. The reader's number is 0, or a refusal's, at most 37.
 pub fn line(s: &[u8], d: &mut [u8; 64]) -> usize
     ensures { λ r. ⌜ (r ≡ length (printFile (now (s .entry)))) × (now (d .exit) ≡ written (now (d .entry)) 0 (printFile (now (s .entry)))) × (r ≤ 64) ⌝ }
 {

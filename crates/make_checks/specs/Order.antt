@@ -1,4 +1,4 @@
--- Making over the bytes of a channel file: its order, 1 to 5, then 15, then the rest of make. Assumes nothing.
+-- Making over the bytes of a channel file: its order, the input checks, then 15, then the rest of make. Assumes nothing.
 use Prim.Native.Nat.{ℕ}
 use mathlib.Core.Path.{_≡_, refl, sym, _∙_, ap}
 use mathlib.Core.Bool.{Bool, true, false, cond, _&&_}
@@ -29,7 +29,7 @@ firstOf one other = cond (eqb (one .number) 0) other one
 unfoldable pub bufferChecked : ℕ → ℕ → Outcome (Unit {0})
 bufferChecked n room = require (eqb room (lengthOf edition n)) bufferLength
 
--- 1 to 5, then 15
+-- the input checks, then 15
 unfoldable pub tested : ℕ → ℕ → ℕ → ℕ → Row → Row → Row → ℕ → Outcome (Unit {0})
 tested n X T wanted h e u room = makeChecked n X T wanted h e u >>= λ _. bufferChecked n room
 

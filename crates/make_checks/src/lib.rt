@@ -46,7 +46,7 @@ fn first(one: rule::Fault, other: rule::Fault) -> rule::Fault
     other
 }
 
-// 1 to 5, then 15: none, or the fault of the first that fails.
+// The input checks, then 15: none, or the fault of the first that fails.
 pub fn check(c: rule::Counts, h: &[i64], e: &[i64], u: &[i64], room: usize) -> rule::Fault
     requires { ⌜ (1 ≤ c .n) × (c .n ≤ mostCells) ⌝ }
     ensures { λ r. ⌜ r ≡ faultOf (tested (c .n) (c .x) (c .t) (c .wanted) (now (h .entry)) (now (e .entry)) (now (u .entry)) room) ⌝ }

@@ -1,4 +1,4 @@
-// Making over the bytes of a channel file: 1 to 5, then 15, then the rest of make.
+// Making over the bytes of a channel file: the input checks, then 15, then the rest of make.
 ghost use mathlib.Core.Path.{_≡_};
 ghost use Prim.Native.Nat.{_*_, _≤_};
 ghost use lib.ListN.{length};

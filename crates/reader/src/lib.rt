@@ -1,4 +1,4 @@
-// Reading: the channel file's bytes, in the reader's own order: 12, 13, 1, 12, 14, then 2 to 5.
+// Reading: the channel file's bytes, in the reader's own order: 12, 13, 1, 12, 14, then the other input checks.
 ghost use mathlib.Core.Path.{_≡_};
 ghost use Rattle.rule.specs.Refusals.{faultOf};
 ghost use Rattle.rule.specs.Checks.{checked};
@@ -10,7 +10,7 @@ ghost use Rattle.form.specs.Reader.{fitsIn, bodyTests};
 ghost use Rattle.opened.specs.Held.{Begun, Formed};
 ghost use Rattle.opened.specs.Fitting.{Opens};
 
-// 1 to 5 of the channel of a file whose form is right, and of the row w where it is poured.
+// The input checks of the channel of a file whose form is right, and of the row w where it is poured.
 fn check_opened(
     s: &[u8],
     h: &mut [i64],
@@ -29,7 +29,7 @@ fn check_opened(
     checks::check(c, h, e, u, v, q, f, poured, w)
 }
 
-// 1 to 5 of the channel that a file of n cells holds, in rows of its own.
+// The input checks of the channel that a file of n cells holds, in rows of its own.
 fn values(s: &[u8], n: usize, poured: bool, p: &[u8]) -> rule::Fault
     requires { ⌜ Formed n poured (now s) (now p) ⌝ }
     ensures { λ r. ⌜ r ≡ faultOf (checked (channelOf (now (s .entry))) (pouredRows poured (rowIn (now (p .entry))))) ⌝ }
@@ -56,7 +56,7 @@ fn values(s: &[u8], n: usize, poured: bool, p: &[u8]) -> rule::Fault
     )
 }
 
-// 12, 14, then 2 to 5, of a file of n cells.
+// 12, 14, then the input checks but 1, of a file of n cells.
 pub fn body(s: &[u8], n: usize, poured: bool, p: &[u8]) -> rule::Fault
     requires { ⌜ Begun n poured (now s) (now p) ⌝ }
     ensures { λ r. ⌜ r ≡ faultOf (bodyTests n (pouredRows poured (rowIn (now (p .entry)))) (now (s .entry))) ⌝ }
