@@ -12,7 +12,8 @@
 
 #define FORM "pathpetal run 1\n"
 
-enum { LONGEST = 4096 }; /* bytes; what is longer was not written here */
+enum { LONGEST = 1 << 16 }; /* bytes, more than two channels with a gauge in each cell have; what is longer was not
+                               written here */
 
 static void put_filter(struct text *text, uint32_t every)
 {
@@ -29,12 +30,23 @@ void put_run(struct text *text, const char *mark, const struct run_id *run)
     text_add(text, "\n%spour %s\n", mark, run->pour.text);
 }
 
+static void put_gauge(struct text *text, const struct gauge *gauge)
+{
+    text_add(text, "gauge");
+    for (size_t k = 0; k < GAUGE_NUMBERS; k++)
+        text_add(text, " %" PRId64, gauge->numbers[k]);
+    text_add(text, " noted %" PRId64 " %" PRId64 " %" PRId64 "\n", gauge->noted.crossed, gauge->noted.from,
+             gauge->noted.to);
+}
+
 static void put_saved(struct text *text, const struct saved *saved)
 {
     text_add(text, "channel %s at step %" PRIu32 "\n", saved->channel.text, saved->step);
     if (saved->recorded)
         text_add(text, "record %s of %" PRIu64 " bytes: %" PRIu32 " rows from step %" PRIu32 "\n", saved->sum.text,
                  saved->length, saved->rows, saved->first);
+    for (size_t k = 0; k < saved->gauges; k++)
+        put_gauge(text, &saved->gauge[k]);
 }
 
 static void put_beside(struct text *text, const struct beside *beside)
@@ -82,7 +94,20 @@ bool same_run(const struct run_id *there, const struct run_id *here, struct text
     return false;
 }
 
-/* A channel's two lines; gives what follows them, NULL if they are not there. */
+/* A gauge's line; gives what follows it, NULL if it is not there. */
+static const char *take_gauge(const char *at, struct gauge *gauge)
+{
+    int64_t *n = gauge->numbers;
+    int used = 0;
+    if (sscanf(at, "gauge %17" SCNd64 " %17" SCNd64 " %17" SCNd64 " %17" SCNd64 " %17" SCNd64 " %17" SCNd64
+               " %17" SCNd64 " %17" SCNd64 " noted %7" SCNd64 " %7" SCNd64 " %7" SCNd64 "%n", &n[0], &n[1], &n[2],
+               &n[3], &n[4], &n[5], &n[6], &n[7], &gauge->noted.crossed, &gauge->noted.from, &gauge->noted.to,
+               &used) != GAUGE_NUMBERS + 3)
+        return NULL;
+    return at + used + (at[used] == '\n');
+}
+
+/* A channel's lines; gives what follows them, NULL if they are not there. */
 static const char *take_saved(const char *at, struct saved *saved)
 {
     int used = 0;
@@ -95,6 +120,13 @@ static const char *take_saved(const char *at, struct saved *saved)
                saved->sum.text, &saved->length, &saved->rows, &saved->first, &used) == 4 && used > 0) {
         saved->recorded = true;
         at += used + (at[used] == '\n');
+    }
+    while (saved->recorded && saved->gauges < CELLS_MOST) {
+        const char *after = take_gauge(at, &saved->gauge[saved->gauges]);
+        if (!after)
+            break;
+        saved->gauges++;
+        at = after;
     }
     return at;
 }
@@ -128,26 +160,26 @@ static bool take_beside(const char *text, size_t length, struct beside *beside)
 /* Reads an open NAME.run. An empty one was left by a run that was killed before it saved anything. */
 static enum status take_open(struct beside *beside, int file)
 {
-    char text[LONGEST + 1];
+    char *text = room_for(LONGEST + 1, 1);
     size_t length = 0;
-    while (length < sizeof text) {
-        ssize_t got = read(file, text + length, sizeof text - length);
+    while (length < LONGEST) {
+        ssize_t got = read(file, text + length, LONGEST - length);
         if (got < 0 && errno == EINTR)
             continue;
         if (got < 0) {
             say("%s: cannot be read: %s", beside->path, strerror(errno));
+            free(text);
             return STATUS_REFUSED;
         }
         if (got == 0)
             break;
         length += (size_t)got;
     }
-    if (length < sizeof text && length > 0)
-        text[length] = '\0';
-    beside->strange = length > 0 && (length == sizeof text || memchr(text, '\0', length) ||
+    beside->strange = length > 0 && (length == LONGEST || memchr(text, '\0', length) ||
                                      !take_beside(text, length, beside));
     if (beside->strange || length == 0)
         beside->count = 0;
+    free(text);
     return STATUS_DONE;
 }
 

@@ -2,13 +2,13 @@
 
    A run is known by the channel that it began with and by what goes into its steps: the filter passes and the poured
    water. Two runs that agree in these take the same numbers, so what one left the other may go on with. NAME.run also
-   says how far the staff record had come when the channel was saved. It is written before its channel and speaks of
-   two: the one that stands, and the one that is about to take its place. So whichever of them a killed run leaves, it
-   is known. */
+   says how far the staff record had come when the channel was saved, and what its gauges were then. It is written
+   before its channel and speaks of two: the one that stands, and the one that is about to take its place. So whichever
+   of them a killed run leaves, it is known. */
 #ifndef BESIDE_H
 #define BESIDE_H
 
-#include "channel.h"
+#include "gauges.h"
 #include "sum.h"
 #include "text.h"
 
@@ -28,6 +28,8 @@ struct saved {
     struct hex sum;  /* of its first */
     uint64_t length; /* bytes, which end with a row */
     uint32_t rows, first; /* how many rows those are, and the step of the first */
+    size_t gauges;        /* one for each of its staffs; 0 where an earlier program wrote this, which had none */
+    struct gauge gauge[CELLS_MOST];
 };
 
 struct beside {

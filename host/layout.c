@@ -48,6 +48,33 @@ size_t take_head(const char *lines, struct head *head)
     return length;
 }
 
+void put_waves(struct text *text, const struct waves *waves)
+{
+    text_add(text, "# cell %" PRId64 ": %" PRId64 " heights from step %" PRId64 ", %" PRId64 " waves, largest %" PRId64
+             " um, sum %" PRId64 " um", waves->cell, waves->fed, waves->first, waves->count, waves->largest,
+             waves->sum);
+    if (waves->count > 0)
+        text_add(text, ", noted from step %" PRId64 " to step %" PRId64, waves->from, waves->to);
+    text_add(text, "\n");
+}
+
+bool take_waves(const char *line, struct waves *waves)
+{
+    struct text again = {0};
+    bool same;
+    int read;
+    *waves = (struct waves){.cell = 0};
+    read = sscanf(line, "# cell %7" SCNd64 ": %7" SCNd64 " heights from step %7" SCNd64 ", %7" SCNd64 " waves, largest "
+                  "%8" SCNd64 " um, sum %14" SCNd64 " um, noted from step %7" SCNd64 " to step %7" SCNd64, &waves->cell,
+                  &waves->fed, &waves->first, &waves->count, &waves->largest, &waves->sum, &waves->from, &waves->to);
+    if (read != 6 && read != 8)
+        return false;
+    put_waves(&again, waves);
+    same = strcmp(line, again.at) == 0;
+    free(again.at);
+    return same;
+}
+
 void put_tail(struct text *text, const struct tail *tail)
 {
     text_add(text, "# %s: %" PRIu32 " of %" PRIu32 " steps accepted", tail->complete ? "complete" : "open",

@@ -1,4 +1,4 @@
-/* layout.h: the lines of a staff record that are not rows: its head and its last line.
+/* layout.h: the lines of a staff record that are not rows: its head, what its gauges counted, and its last line.
 
        step,time_s,cell_10_um,cell_60_um
        # origin 6c0f... at step 0
@@ -7,10 +7,13 @@
        # every 10 from step 0
        0,0.000,0,0
        ...
+       # cell 10: 6000 heights from step 1, 22 waves, largest 81234 um, sum 912345 um, noted from step 812 to step 871
+       # cell 60: 6000 heights from step 1, 0 waves, largest 0 um, sum 0 um
        # complete: 6000 of 6000 steps accepted, 601 rows, sha256 91d4...
 
    The head says of which run the record is and which rows it has; the sum at the very end is that of all bytes before
-   its own digits, so that nothing can be taken away or changed unseen. */
+   its own digits, so that nothing can be taken away or changed unseen. What the gauges counted stands there when the
+   run has ended, complete or open, and not while it goes. */
 #ifndef LAYOUT_H
 #define LAYOUT_H
 
@@ -28,6 +31,10 @@ void put_head(struct text *text, const struct head *head);
 
 /* Takes apart the lines that follow the names; gives their length, 0 if they are no head. */
 size_t take_head(const char *lines, struct head *head);
+
+/* The line on what a gauge counted, with its end; and taken apart, whether it is one. */
+void put_waves(struct text *text, const struct waves *waves);
+bool take_waves(const char *line, struct waves *waves);
 
 /* What the last line says. */
 struct tail {

@@ -186,11 +186,37 @@ static void staff_line(struct text *svg, const struct axis *across, const struct
     svg_line_end(svg);
 }
 
+/* The time that the largest wave at a staff took, shaded; as much of it as lies between the first row and the last, and
+   wide enough to be seen. */
+static void largest_wave(struct text *svg, const struct axis *across, const struct axis *up,
+                         const struct staffs *staffs, size_t staff)
+{
+    const struct waves *waves = &staffs->waves[staff];
+    double from = on_axis(across, (double)(waves->from * staffs->step_ms) / 1000.0);
+    double to = on_axis(across, (double)(waves->to * staffs->step_ms) / 1000.0);
+    if (waves->count == 0 || staffs->step_ms == 0)
+        return;
+    from = from < across->start ? across->start : from > across->end - 2 ? across->end - 2 : from;
+    to = to > across->end ? across->end : to < from + 2 ? from + 2 : to;
+    text_add(svg, "<rect class=\"largest\" x=\"%.1f\" y=\"%.1f\" width=\"%.1f\" height=\"%.1f\"/>\n", from, up->end,
+             to - from, up->start - up->end);
+}
+
+/* What is said of waves, under all panels. */
+static void waves_key(struct text *svg, double y, const struct staffs *staffs)
+{
+    char words[256];
+    text_add(svg, "<rect class=\"largest\" x=\"%d\" y=\"%.1f\" width=\"36\" height=\"12\"/>\n", LEFT, y - 10);
+    svg_words(svg, LEFT + 44, y, "", "when the largest wave was (noted by the host)");
+    snprintf(words, sizeof words, "waves by the proved counts of %s", fed_words(staffs).text);
+    svg_words(svg, RIGHT, y, "right", words);
+}
+
 void draw_staffs(struct text *svg, const char *name, const struct staffs *staffs)
 {
     double lowest = 0, highest = 0, from = (double)staffs->times[0] / 1000.0;
     double to = (double)staffs->times[staffs->rows - 1] / 1000.0;
-    double tall = staffs->count == 1 ? 2 * STAFF_TALL : STAFF_TALL;
+    double tall = staffs->count == 1 ? 2 * STAFF_TALL : STAFF_TALL, below;
     struct axis across = axis_for(from, to, LEFT, RIGHT, 15, false);
     char about[128];
     for (size_t k = 0; k < staffs->rows * staffs->count; k++) {
@@ -199,17 +225,24 @@ void draw_staffs(struct text *svg, const char *name, const struct staffs *staffs
     }
     snprintf(about, sizeof about, "%s to %s s, %s rows", THOUSANDTHS(staffs->times[0]),
              THOUSANDTHS(staffs->times[staffs->rows - 1]), GROUPED((int64_t)staffs->rows));
-    svg_begin(svg, WIDTH, 96 + (double)staffs->count * (tall + STAFF_APART) + 30);
+    below = 96 + (double)staffs->count * (tall + STAFF_APART) + 30;
+    svg_begin(svg, WIDTH, below + (staffs->counted ? STAFF_APART : 0));
     head(svg, name, staffs_standing(staffs).text, staffs->whole == RECORD_COMPLETE, about);
     for (size_t k = 0; k < staffs->count; k++) {
         double top = 104 + (double)k * (tall + STAFF_APART);
         struct axis up = axis_for(lowest, highest, top + tall, top, 4, true);
         char title[64];
         snprintf(title, sizeof title, "Staff at cell %u", (unsigned)staffs->cells[k]);
+        if (staffs->counted) {
+            svg_words(svg, RIGHT, top - 9, "right", waves_words(&staffs->waves[k], true).text);
+            largest_wave(svg, &across, &up, staffs, k);
+        }
         svg_panel(svg, &across, &up, title, "height (mm)", k + 1 == staffs->count ? "time (s)" : NULL);
         still_water(svg, &across, &up);
         staff_line(svg, &across, &up, staffs, k);
         frame(svg, &across, &up);
     }
+    if (staffs->counted)
+        waves_key(svg, below + 12, staffs);
     svg_end(svg);
 }

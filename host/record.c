@@ -1,4 +1,5 @@
 #include "record.h"
+#include "refusal.h"
 
 #include <errno.h>
 #include <fcntl.h>
@@ -174,17 +175,61 @@ static bool open_is_own(const struct record *record)
     return begins_own(record, record->file, true) || begins_own(record, record->file, false);
 }
 
-bool record_done(struct record *record, const struct saved *saved)
+/* Takes the gauges that a channel was saved with, if they are those of this record. */
+static bool take_gauges(struct record *record, const struct saved *saved, const uint8_t *file)
 {
-    if (!record->named_whole || !saved->recorded || !begins_saved(record, record->named, saved))
+    struct gauges *gauges = &record->gauges;
+    return saved->gauges == record->count && gauges_take(gauges, saved->gauge, record->cells, record->count, file) &&
+           gauges->placed <= saved->first && (uint64_t)gauges->placed + record->head.every > saved->first;
+}
+
+/* What the gauges counted, and a last line with its sum: the bytes that follow those of the sum at hand. */
+static struct text own_end(const struct record *record, const struct tail *tail)
+{
+    struct text end = {0};
+    struct sum sum = record->sum;
+    for (size_t k = 0; k < record->count; k++) {
+        struct waves waves = waves_at(&record->gauges, k);
+        put_waves(&end, &waves);
+    }
+    put_tail(&end, tail);
+    sum_add(&sum, end.at, end.length);
+    text_add(&end, "%s\n", sum_hex(&sum).text);
+    return end;
+}
+
+/* Whether NAME, which begins as the record did that a complete channel was saved with, ends as that does. */
+static bool ends_saved(struct record *record, const struct saved *saved, const uint8_t *file)
+{
+    struct tail tail = {.complete = true, .accepted = saved->step, .wanted = saved->step, .first = saved->first,
+                        .summed = true, .rows = saved->rows};
+    struct text end;
+    char *there;
+    bool same;
+    if (!take_gauges(record, saved, file))
+        return false;
+    end = own_end(record, &tail);
+    there = room_for(end.length + 1, 1);
+    same = read_at(record->named, saved->length, there, end.length + 1) == end.length &&
+           memcmp(there, end.at, end.length) == 0;
+    free(there);
+    free(end.at);
+    return same;
+}
+
+bool record_done(struct record *record, const struct saved *saved, const uint8_t *file)
+{
+    if (!record->named_whole || !saved->recorded || !begins_saved(record, record->named, saved) ||
+        (saved->gauges > 0 && !ends_saved(record, saved, file)))
         return false;
     record->over_open = !record->made && open_is_own(record);
     return true;
 }
 
-bool record_find(struct record *record, const struct saved *saved)
+bool record_find(struct record *record, const struct saved *saved, const uint8_t *file)
 {
     uint64_t next = saved->first + (uint64_t)saved->rows * record->head.every; /* the step of the row to come */
+    record->ungauged = false;
     /* the row of the channel's own count may lack: it could not be written */
     if (!saved->recorded || next < saved->step || next > (uint64_t)saved->step + record->head.every)
         return false;
@@ -193,7 +238,8 @@ bool record_find(struct record *record, const struct saved *saved)
     if (record->found < 0 && begins_saved(record, record->named, saved) && open_is_own(record))
         record->found = record->named;
     record->rows = saved->rows;
-    return record->found >= 0;
+    record->ungauged = record->found >= 0 && !take_gauges(record, saved, file);
+    return record->found >= 0 && !record->ungauged;
 }
 
 /* What makes NAME.open none that this run can go on with; *same is whether it is of this run all the same. */
@@ -226,11 +272,24 @@ static struct text what_differs(const struct record *record, const uint8_t *file
     return how;
 }
 
+/* Places the gauges in a channel that the record begins with. */
+static enum status place_gauges(struct record *record, const uint8_t *file)
+{
+    uint64_t answer = gauges_place(&record->gauges, file, record->cells, record->count);
+    if (pathpetal_number(answer) == PATHPETAL_DONE)
+        return STATUS_DONE;
+    say("--staff: no gauges can be placed (number %u): %s", pathpetal_number(answer),
+        refusal_words(pathpetal_number(answer)));
+    return STATUS_REFUSED;
+}
+
 enum status record_anew(struct record *record, const uint8_t *file, bool replace)
 {
     uint32_t accepted = pathpetal_accepted(file), wanted = pathpetal_wanted(file);
     struct text how;
     bool same;
+    if (place_gauges(record, file) != STATUS_DONE)
+        return STATUS_REFUSED;
     record->head.first = record_first(record, file);
     record->found = -1;
     record->rows = 0;
@@ -331,6 +390,11 @@ enum status record_begin(struct record *record, const uint8_t *file)
     return status;
 }
 
+uint64_t record_feed(struct record *record, const uint8_t *file)
+{
+    return gauges_feed(&record->gauges, file);
+}
+
 enum status record_flush(struct record *record)
 {
     return flush_file(record->file, record->open_path);
@@ -345,6 +409,8 @@ void record_saved(const struct record *record, struct saved *saved)
     saved->length = record->sum.length;
     saved->rows = record->rows;
     saved->first = record->head.first;
+    saved->gauges = record->count;
+    gauges_keep(&record->gauges, saved->gauge);
 }
 
 /* Whether NAME.open still has its name and begins with the bytes that were written to it. */
@@ -383,15 +449,10 @@ enum status record_end(struct record *record, const uint8_t *file)
                         .first = record->head.first,
                         .summed = true,
                         .rows = record->rows};
-    struct text line = {0};
-    struct sum before = record->sum;
-    enum status status;
-    put_tail(&line, &tail);
-    sum_add(&before, line.at, line.length);
-    text_add(&line, "%s\n", sum_hex(&before).text);
-    status = write_all(record->file, line.at, line.length, record->open_path);
-    sum_add(&record->sum, line.at, line.length);
-    free(line.at);
+    struct text end = own_end(record, &tail);
+    enum status status = write_all(record->file, end.at, end.length, record->open_path);
+    sum_add(&record->sum, end.at, end.length);
+    free(end.at);
     if (status == STATUS_DONE)
         status = record_flush(record);
     record->spoilt = !begins_intact(record) || length_of(record->file) != record->sum.length;

@@ -3,7 +3,10 @@
    While a run goes, its rows are added to NAME.open; NAME appears when the run is complete, with a last line that says
    so. Its head says of which run it is (layout.h), and what stands beside a saved channel says how many of its bytes
    that channel has behind it, and their sum (beside.h). So a run goes on only with rows that are its own: it finds them
-   in NAME.open or, where that has become NAME, in NAME, and writes the later ones again. */
+   in NAME.open or, where that has become NAME, in NAME, and writes the later ones again.
+
+   A gauge stands at each marked cell (gauges.h), and is fed after every accepted step, also where no row is due. What
+   they have counted comes before the last line; what they were when a channel was saved stands beside it. */
 #ifndef RECORD_H
 #define RECORD_H
 
@@ -28,6 +31,8 @@ struct record {
     int found;         /* where the rows are that are kept: one of the two files, -1 for no rows */
     struct sum sum;    /* of the bytes that are kept or written */
     uint32_t rows;     /* among them */
+    bool ungauged;     /* rows were found, but not what the gauges were then */
+    struct gauges gauges; /* one for each marked cell */
     char *line;        /* room for a row */
 };
 
@@ -40,15 +45,17 @@ enum status record_open(struct record *record, const struct run_id *run);
 /* The step of the first row of a record that begins with a channel. */
 uint32_t record_first(const struct record *record, const uint8_t *file);
 
-/* Whether NAME is whole, and the record that a complete channel was saved with. */
-bool record_done(struct record *record, const struct saved *saved);
+/* Whether NAME is whole, and the record that a complete channel was saved with: what the gauges counted too, where that
+   is known. */
+bool record_done(struct record *record, const struct saved *saved, const uint8_t *file);
 
-/* Whether the rows that a saved channel has behind it are there, as it was saved with them; they are kept then. */
-bool record_find(struct record *record, const struct saved *saved);
+/* Whether the rows that a saved channel has behind it are there, as it was saved with them, and its gauges are known;
+   they are kept then. */
+bool record_find(struct record *record, const struct saved *saved, const uint8_t *file);
 
-/* The same for a channel that begins the record, or goes on with one whose rows are lost: nothing is kept. Refused,
-   with what is different, where NAME.open is of another run, or holds rows of this one that are not known to be the
-   channel's. `replace` lets a run from step 0 write over it. */
+/* The same for a channel that begins the record, or goes on with one whose rows are lost: nothing is kept, and the
+   gauges are placed. Refused, with what is different, where NAME.open is of another run, or holds rows of this one that
+   are not known to be the channel's. `replace` lets a run from step 0 write over it. */
 enum status record_anew(struct record *record, const uint8_t *file, bool replace);
 
 /* Whether NAME may be written over at the end: it is not there, is whole and of this run, or `replace` is given. */
@@ -61,14 +68,17 @@ enum status record_begin(struct record *record, const uint8_t *file);
 bool record_due(const struct record *record, uint32_t accepted);
 enum status record_row(struct record *record, const uint8_t *file);
 
+/* Feeds the gauges the heights after a step that was just accepted; gives the library's answer. */
+uint64_t record_feed(struct record *record, const uint8_t *file);
+
 /* All rows so far on disk. */
 enum status record_flush(struct record *record);
 
 /* How far the record has come, to be said beside a channel that is saved. */
 void record_saved(const struct record *record, struct saved *saved);
 
-/* The last line: of a complete channel the record gets its name, if all its bytes are still those that were written;
-   else it stays under NAME.open. */
+/* What the gauges counted, and the last line: of a complete channel the record gets its name, if all its bytes are
+   still those that were written; else it stays under NAME.open. */
 enum status record_end(struct record *record, const uint8_t *file);
 
 /* What is left under NAME.open: nothing, the rows so far, or something that another program has changed. */

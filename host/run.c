@@ -1,9 +1,9 @@
-/* run.c: a run of a channel file, with filter passes, poured water, a staff record and checkpoints.
+/* run.c: a run of a channel file, with filter passes, poured water, a staff record with its gauges and checkpoints.
 
    All of these are tied to the accepted count alone, and a saved channel always stands directly after a step. A
-   filter pass belongs to the step that follows it: both happen, or neither is kept. So a run that goes on from a
-   saved file does what one run in one go would have done. What the same run has left when it was cut is known by what
-   stands beside it, and is gone on with. */
+   filter pass belongs to the step that follows it, and the feeding of the gauges to the step before it: all happen, or
+   none is kept. So a run that goes on from a saved file does what one run in one go would have done. What the same run
+   has left when it was cut is known by what stands beside it, and is gone on with. */
 #include "commands.h"
 #include "options.h"
 #include "pour.h"
@@ -34,7 +34,7 @@ struct run {
     struct pour pour;
     struct record record;
     struct channel channel;
-    struct channel unfiltered; /* as it was before the filter pass of the step at hand */
+    struct channel before;     /* as it was before the step at hand and its filter pass, where it may be needed */
     uint8_t *poured;           /* a row for one step */
     uint32_t first; /* the count it began with */
     double began;   /* the clock when it began, s */
@@ -44,8 +44,8 @@ struct run {
 /* Why a run ended. */
 struct ending {
     enum status status;
-    bool in_filter;  /* the refusal was met in a filter pass */
-    uint64_t answer; /* of the refused call */
+    enum { IN_STEP, IN_FILTER, IN_GAUGES } where; /* the refusal was met */
+    uint64_t answer;                              /* of the refused call */
 };
 
 /* The signal that asked the run to end; 0 for none. */
@@ -121,40 +121,49 @@ static uint64_t free_steps(const struct run *run)
     uint64_t until = (uint64_t)accepted + BLOCK;
     until = least(until, next_multiple(accepted, run->id.filter_every));
     until = least(until, next_multiple(accepted, run->checkpoint_every));
-    until = least(until, next_multiple(accepted, run->record.path ? run->record.head.every : 0));
+    if (run->record.path)
+        until = (uint64_t)accepted + 1; /* the gauges are fed after every step */
     if (pours)
         until = least(until, pours - 1);
     return until - accepted;
 }
 
-/* One filter pass if one is due and then at least one step; or nothing, and the refusal. */
+/* The step that pours, or as many as are free. */
+static uint64_t step_on(struct run *run)
+{
+    struct channel *channel = &run->channel;
+    uint64_t steps = free_steps(run);
+    size_t cells = pathpetal_cells(channel->bytes);
+    if (steps > 0)
+        return pathpetal_run(channel->bytes, channel->length, steps);
+    pour_row(&run->pour, run->poured, cells);
+    return pathpetal_step(channel->bytes, channel->length, run->poured, 4 * cells);
+}
+
+/* One filter pass if one is due, then at least one step, and with a record exactly one, which the gauges are fed; or
+   nothing, and the refusal. */
 static void advance(struct run *run, struct ending *ending)
 {
     struct channel *channel = &run->channel;
     uint32_t before = pathpetal_accepted(channel->bytes);
-    uint64_t answer, steps = free_steps(run);
-    bool filtered = run->id.filter_every && before > 0 && before % run->id.filter_every == 0;
-    if (filtered) {
-        memcpy(run->unfiltered.bytes, channel->bytes, channel->length);
+    uint64_t answer = PATHPETAL_DONE;
+    memcpy(run->before.bytes, channel->bytes, channel->length);
+    if (run->id.filter_every && before > 0 && before % run->id.filter_every == 0)
         answer = pathpetal_filter(channel->bytes, channel->length);
-        if (pathpetal_number(answer) != PATHPETAL_DONE) {
-            *ending = (struct ending){STATUS_OPEN, true, answer};
-            return;
-        }
-    }
-    if (steps == 0) {
-        size_t cells = pathpetal_cells(channel->bytes);
-        pour_row(&run->pour, run->poured, cells);
-        answer = pathpetal_step(channel->bytes, channel->length, run->poured, 4 * cells);
-    } else {
-        answer = pathpetal_run(channel->bytes, channel->length, steps);
-    }
-    if (pathpetal_number(answer) != PATHPETAL_DONE && pathpetal_number(answer) != PATHPETAL_MORE)
-        *ending = (struct ending){STATUS_OPEN, false, answer};
-    if (pathpetal_accepted(channel->bytes) != before)
+    if (pathpetal_number(answer) != PATHPETAL_DONE) {
+        *ending = (struct ending){STATUS_OPEN, IN_FILTER, answer};
         return;
-    if (filtered)
-        memcpy(channel->bytes, run->unfiltered.bytes, channel->length);
+    }
+    answer = step_on(run);
+    if (pathpetal_number(answer) != PATHPETAL_DONE && pathpetal_number(answer) != PATHPETAL_MORE)
+        *ending = (struct ending){STATUS_OPEN, IN_STEP, answer};
+    if (pathpetal_accepted(channel->bytes) != before) {
+        answer = run->record.path ? record_feed(&run->record, channel->bytes) : PATHPETAL_DONE;
+        if (pathpetal_number(answer) == PATHPETAL_DONE)
+            return;
+        *ending = (struct ending){STATUS_OPEN, IN_GAUGES, answer};
+    }
+    memcpy(channel->bytes, run->before.bytes, channel->length);
     ending->status = STATUS_OPEN; /* a call that takes no step ends the run, whatever it answers */
 }
 
@@ -228,14 +237,20 @@ static void say_ending(const struct run *run, const struct ending *ending)
         say("interrupted before step %s of %s", GROUPED(step), GROUPED(wanted));
     if (ending->status != STATUS_OPEN)
         return;
-    if (ending->in_filter)
+    if (ending->where == IN_GAUGES) {
+        say("step %s of %s is not kept: its heights could not be fed to the gauges (number %u): %s", GROUPED(step),
+            GROUPED(wanted), number, refusal_words(number));
+        say("to mend: %s", refusal_mend(number));
+        return;
+    }
+    if (ending->where == IN_FILTER)
         say("the filter pass before step %s of %s was refused (number %u)%s: %s", GROUPED(step), GROUPED(wanted),
             number, place_along(file, ending->answer).text, refusal_words(number));
     else
         say("step %s of %s was refused %s (number %u, stage %u)%s: %s", GROUPED(step), GROUPED(wanted),
             stage_words(stage).text, number, stage, place_along(file, ending->answer).text, refusal_words(number));
     /* a filter pass meets what was poured into the step before it */
-    say_mend(file, ending->answer, pours_into(&run->pour, ending->in_filter ? step - 1 : step));
+    say_mend(file, ending->answer, pours_into(&run->pour, ending->where == IN_FILTER ? step - 1 : step));
 }
 
 /* Writes END; *holds is whether it then holds the channel at hand, and not one that the same run has left further on.
@@ -424,11 +439,26 @@ static enum status know_start(struct run *run, const struct beside *beside)
     return status;
 }
 
+/* The count of the channel that the gauges of a saved record were placed in; that of its first row where no gauges are
+   known. */
+static int64_t placed_at(const struct saved *saved)
+{
+    return saved->gauges > 0 ? saved->step - saved->gauge[0].numbers[GAUGE_FED] : saved->first;
+}
+
+/* Whether a record was saved that has its first row at a step, and its gauges, if they are known, from a count on. */
+static bool begins_at(const struct saved *saved, uint32_t first, int64_t placed)
+{
+    return saved->recorded && saved->first == first && (saved->gauges == 0 || placed_at(saved) == placed);
+}
+
 /* Whether a record that was saved begins where one does that goes on from START, or begins there. */
 static bool begins_alike(const struct run *run, const struct saved *saved)
 {
-    return saved->recorded && (saved->first == record_first(&run->record, run->channel.bytes) ||
-                               (run->start_saved.recorded && saved->first == run->start_saved.first));
+    const struct saved *start = &run->start_saved;
+    const uint8_t *file = run->channel.bytes;
+    return begins_at(saved, record_first(&run->record, file), pathpetal_accepted(file)) ||
+           (start->recorded && begins_at(saved, start->first, placed_at(start)));
 }
 
 /* Whether a channel that the same run has left is gone on with: it is further than START, and the record has the rows
@@ -437,17 +467,37 @@ static bool goes_on_from(struct run *run, const struct save *left)
 {
     if (run->from || !left->own || left->stands.step < pathpetal_accepted(run->channel.bytes))
         return false;
-    if (!run->record.path || (begins_alike(run, &left->stands) && record_find(&run->record, &left->stands)))
+    if (!run->record.path || (begins_alike(run, &left->stands) &&
+                              record_find(&run->record, &left->stands, left->channel.bytes)))
         return true;
     if (!left->stands.recorded)
         say("%s: is of this run, but was saved without a record: it is not gone on with, and stays", left->path);
-    else if (!begins_alike(run, &left->stands))
+    else if (left->stands.first != record_first(&run->record, run->channel.bytes) && !begins_alike(run, &left->stands))
         say("%s: is of this run, but its record begins at step %s: it is not gone on with, and stays", left->path,
             GROUPED(left->stands.first));
+    else if (!begins_alike(run, &left->stands))
+        say("%s: is of this run, but its waves are counted from step %s on: it is not gone on with, and stays",
+            left->path, GROUPED(placed_at(&left->stands) + 1));
+    else if (run->record.ungauged)
+        say("%s: is of this run, but nothing beside it says what its gauges had counted: it is not gone on with, and "
+            "stays", left->path);
     else
         say("%s: is of this run, but %s has not the rows that belong to it: it is not gone on with, and stays",
             left->path, run->record.open_path);
     return false;
+}
+
+/* Finds the record that goes with START, or begins one. */
+static enum status choose_record(struct run *run)
+{
+    if (record_find(&run->record, &run->start_saved, run->channel.bytes))
+        return STATUS_DONE;
+    if (!run->record.ungauged)
+        return record_anew(&run->record, run->channel.bytes, run->replace);
+    say("%s: nothing beside it says what the gauges of its record had counted: an earlier program saved it",
+        run->start);
+    say("give the command that this run began with, or record under another name");
+    return STATUS_REFUSED;
 }
 
 /* Where the run begins: at the furthest channel that the same run, cut before, has left; else at START. */
@@ -461,8 +511,8 @@ static enum status choose(struct run *run)
             run->from = left[k];
     if (run->from)
         run->channel = run->from->channel;
-    else if (run->record.path && !record_find(&run->record, &run->start_saved))
-        status = record_anew(&run->record, run->channel.bytes, run->replace);
+    else if (run->record.path)
+        status = choose_record(run);
     if (status == STATUS_DONE && run->record.path)
         status = record_name_free(&run->record, run->replace);
     pour_from(&run->pour, pathpetal_accepted(run->channel.bytes));
@@ -475,7 +525,7 @@ static bool is_done(struct run *run)
     const struct save *end = &run->end;
     return end->own && pathpetal_complete(end->channel.bytes) &&
            (!run->record.path ||
-            (begins_alike(run, &end->stands) && record_done(&run->record, &end->stands)));
+            (begins_alike(run, &end->stands) && record_done(&run->record, &end->stands, end->channel.bytes)));
 }
 
 /* Says that all is there already, after it is flushed: the run that wrote it may have been killed before that. */

@@ -70,7 +70,8 @@ static bool still_stands(const struct save *save)
 
 static bool same_saved(const struct saved *a, const struct saved *b)
 {
-    return same_hex(&a->channel, &b->channel) && a->recorded == b->recorded && same_hex(&a->sum, &b->sum);
+    return same_hex(&a->channel, &b->channel) && a->recorded == b->recorded && same_hex(&a->sum, &b->sum) &&
+           a->gauges == b->gauges && memcmp(a->gauge, b->gauge, a->gauges * sizeof a->gauge[0]) == 0;
 }
 
 enum status save_write(struct save *save, const struct run_id *run, const struct channel *channel,

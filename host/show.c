@@ -40,6 +40,16 @@ static void tell_channel(const char *path, const uint8_t *file)
     tell("  water sum      %s um (the heights of all cells added up)", GROUPED(water_sum(file)));
 }
 
+/* The waves at each staff, as the proved library has counted them; told apart from that, when the largest was. */
+static void tell_waves(const struct staffs *staffs)
+{
+    tell("  waves by the proved counts of %s; in brackets the time of the largest, noted by the host",
+         fed_words(staffs).text);
+    for (size_t k = 0; k < staffs->count; k++)
+        tell("  cell %u: %s%s", (unsigned)staffs->cells[k], waves_words(&staffs->waves[k], false).text,
+             largest_words(staffs, &staffs->waves[k]).text);
+}
+
 static void tell_staffs(const char *path, const struct staffs *staffs)
 {
     tell("%s", path);
@@ -58,6 +68,10 @@ static void tell_staffs(const char *path, const struct staffs *staffs)
              GROUPED(staff_height(staffs, low, k)), THOUSANDTHS(staffs->times[low]),
              GROUPED(staff_height(staffs, high, k)), THOUSANDTHS(staffs->times[high]));
     }
+    if (staffs->counted)
+        tell_waves(staffs);
+    else
+        tell("  no counts of waves: %s", uncounted_words(staffs));
 }
 
 static enum status write_picture(const char *use, const char *from, const char *to, const struct text *svg,

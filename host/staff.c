@@ -7,8 +7,9 @@
 #include <string.h>
 
 enum {
-    HEAD_LINES = 4,    /* of a head after the names of the columns */
-    LINE_LONGEST = 200 /* bytes of such a line, and more */
+    HEAD_LINES = 4,      /* of a head after the names of the columns */
+    LINE_LONGEST = 200,  /* bytes of such a line, of one on what a gauge counted, and more */
+    WAVE_MOST = 39999000 /* um, from the lowest to the highest that a channel can hold */
 };
 
 int64_t staff_height(const struct staffs *staffs, size_t row, size_t staff)
@@ -62,6 +63,9 @@ static enum status take_columns(const struct csv *csv, struct staffs *staffs)
 /* What a record's lines say of it, taken in while they are read. */
 struct lines {
     unsigned long count;
+    struct waves *waves;   /* what gauges counted, by the first lines that tell it, as many as there can be cells */
+    size_t counts;         /* how many such lines there are, */
+    unsigned long counted; /* and which is the last, from 1 */
     struct text head;   /* the lines that follow the names: as many as a head has */
     struct sum sum;     /* of all lines */
     struct sum before;  /* of all but the last */
@@ -71,6 +75,7 @@ struct lines {
 static void take_line(void *to, const char *line, size_t length)
 {
     struct lines *lines = to;
+    struct waves waves;
     if (lines->count > 0 && lines->count <= HEAD_LINES)
         text_add_bytes(&lines->head, line, length < LINE_LONGEST ? length : LINE_LONGEST);
     lines->count++;
@@ -78,6 +83,12 @@ static void take_line(void *to, const char *line, size_t length)
     sum_add(&lines->sum, line, length);
     lines->last.length = 0;
     text_add_bytes(&lines->last, line, length < LINE_LONGEST ? length : LINE_LONGEST);
+    if (line[0] != '#' || !take_waves(lines->last.at, &waves))
+        return;
+    if (lines->counts < CELLS_MOST)
+        lines->waves[lines->counts] = waves;
+    lines->counts++;
+    lines->counted = lines->count;
 }
 
 /* Whether the last line of all is this one, to the byte, and has the sum of all before its digits. */
@@ -107,31 +118,62 @@ static bool agree(const struct lines *lines, const struct head *head, const stru
                   const struct staffs *staffs)
 {
     uint32_t last = (uint32_t)rows->last;
-    return lines->count == 1 + HEAD_LINES + staffs->rows + 1 && !rows->uneven && tail->rows == staffs->rows &&
-           head->first == staffs->first && tail->first == staffs->first &&
+    return lines->count == 1 + HEAD_LINES + staffs->rows + lines->counts + 1 && !rows->uneven &&
+           tail->rows == staffs->rows && head->first == staffs->first && tail->first == staffs->first &&
            (rows->every == 0 || rows->every == head->every) && tail->accepted >= last &&
            (uint64_t)tail->accepted < (uint64_t)last + head->every && tail->accepted <= tail->wanted &&
            tail->wanted >= 1 && tail->wanted <= STEPS_MOST && head->run.filter_every <= STEPS_MOST &&
            tail->complete == (tail->accepted == tail->wanted);
 }
 
-/* Judges a record by its head, its rows and its last line. */
+/* Whether what a gauge counted can be that of this cell, in a record that has come to this count: of the heights after
+   every step since one that such a record can begin with. */
+static bool can_be(const struct waves *waves, const struct head *head, uint32_t cell, uint32_t accepted)
+{
+    int64_t placed = waves->first - 1;
+    if (waves->cell != cell || waves->fed != (int64_t)accepted - placed || placed < head->run.origin_step ||
+        placed > head->first || placed + head->every <= head->first)
+        return false;
+    if (waves->count == 0)
+        return waves->largest == 0 && waves->sum == 0;
+    return 2 * waves->count + 2 <= waves->fed && waves->largest >= 1 && waves->largest <= WAVE_MOST &&
+           waves->sum >= waves->largest && waves->sum <= waves->largest * waves->count &&
+           waves->from > waves->first && waves->to >= waves->from + 2 && waves->to <= accepted;
+}
+
+/* Whether a record says what its gauges counted: a line for each staff, in their order, directly before the last. */
+static bool are_counted(const struct lines *lines, const struct head *head, const struct tail *tail,
+                        const struct staffs *staffs)
+{
+    if (lines->counts != staffs->count || lines->counts > CELLS_MOST || lines->counted + 1 != lines->count)
+        return false;
+    for (size_t k = 0; k < staffs->count; k++)
+        if (lines->waves[k].first != lines->waves[0].first ||
+            !can_be(&lines->waves[k], head, staffs->cells[k], tail->accepted))
+            return false;
+    return true;
+}
+
+/* Judges a record by its head, its rows, what its gauges counted and its last line. */
 static void judge(const struct csv *csv, const struct lines *lines, const struct rows *rows, struct staffs *staffs)
 {
     struct head head;
     struct tail tail;
     bool headed = lines->head.at && take_head(lines->head.at, &head) > 0;
     bool ended = csv->remark && !csv->cut && take_tail(csv->remark, &tail);
+    bool counted = headed && ended && are_counted(lines, &head, &tail, staffs);
     staffs->accepted = (uint32_t)rows->last;
+    staffs->step_ms = rows->uneven ? 0 : rows->step_ms;
     staffs->whole = RECORD_CHANGED;
-    if (!csv->remark || csv->cut) {
+    if (!csv->remark || csv->cut || lines->counted == lines->count) {
         if (!headed || (head.first == staffs->first && (rows->every == 0 || rows->every == head.every)))
             staffs->whole = RECORD_CUT;
     } else if (ended && !headed && !tail.summed) {
         staffs->whole = RECORD_OLD;
     } else if (ended && headed && tail.summed && sum_is_right(lines, csv->remark, &tail) &&
-               agree(lines, &head, rows, &tail, staffs)) {
+               agree(lines, &head, rows, &tail, staffs) && (lines->counts == 0 || counted)) {
         staffs->whole = tail.complete ? RECORD_COMPLETE : RECORD_OPEN;
+        staffs->counted = counted;
         staffs->accepted = tail.accepted;
         staffs->wanted = tail.wanted;
     }
@@ -189,7 +231,7 @@ static enum status no_rows(const struct csv *csv)
 enum status staffs_read(const char *path, struct staffs *staffs, bool keep)
 {
     struct csv csv;
-    struct lines lines = {.count = 0};
+    struct lines lines = {.waves = room_for(CELLS_MOST, sizeof *lines.waves)};
     struct rows rows = {.last = -1};
     enum status status;
     *staffs = (struct staffs){.count = 0};
@@ -218,6 +260,7 @@ enum status staffs_read(const char *path, struct staffs *staffs, bool keep)
         status = staffs->rows == 0 ? no_rows(&csv) : status;
     if (status == STATUS_DONE)
         judge(&csv, &lines, &rows, staffs);
+    staffs->waves = lines.waves;
     free(lines.head.at);
     free(lines.last.at);
     csv_close(&csv);
@@ -229,6 +272,7 @@ void staffs_free(struct staffs *staffs)
     free(staffs->cells);
     free(staffs->times);
     free(staffs->heights);
+    free(staffs->waves);
 }
 
 struct standing staffs_standing(const struct staffs *staffs)
@@ -258,4 +302,57 @@ struct standing staffs_standing(const struct staffs *staffs)
         break;
     }
     return out;
+}
+
+struct standing fed_words(const struct staffs *staffs)
+{
+    struct standing out;
+    const struct waves *waves = &staffs->waves[0];
+    const char *more = waves->fed == 1 ? "" : "s";
+    if (waves->fed == 0)
+        snprintf(out.text, sizeof out.text, "no step");
+    else if (waves->first > 1)
+        snprintf(out.text, sizeof out.text, "the %s step%s from step %s on", GROUPED(waves->fed), more,
+                 GROUPED(waves->first));
+    else
+        snprintf(out.text, sizeof out.text, "%s %s step%s", staffs->whole == RECORD_COMPLETE ? "all" : "the first",
+                 GROUPED(waves->fed), more);
+    return out;
+}
+
+struct standing waves_words(const struct waves *waves, bool in_mm)
+{
+    struct standing out;
+    struct grouped (*written)(int64_t number) = in_mm ? thousandths : grouped;
+    const char *unit = in_mm ? "mm" : "um";
+    if (waves->count == 0)
+        snprintf(out.text, sizeof out.text, "no complete wave");
+    else
+        snprintf(out.text, sizeof out.text, "%s wave%s, mean %s %s, largest %s %s", GROUPED(waves->count),
+                 waves->count == 1 ? "" : "s", written(mean_height(waves)).text, unit, written(waves->largest).text,
+                 unit);
+    return out;
+}
+
+struct standing largest_words(const struct staffs *staffs, const struct waves *waves)
+{
+    struct standing out = {""};
+    if (waves->count > 0 && staffs->step_ms > 0)
+        snprintf(out.text, sizeof out.text, " (from %s s to %s s)", THOUSANDTHS(waves->from * staffs->step_ms),
+                 THOUSANDTHS(waves->to * staffs->step_ms));
+    else if (waves->count > 0)
+        snprintf(out.text, sizeof out.text, " (from step %s to step %s)", GROUPED(waves->from), GROUPED(waves->to));
+    return out;
+}
+
+const char *uncounted_words(const struct staffs *staffs)
+{
+    switch (staffs->whole) {
+    case RECORD_CUT: return "the run that writes them was cut, or still goes; give its command again";
+    case RECORD_CHANGED: return "the record is not whole";
+    case RECORD_COMPLETE:
+    case RECORD_OPEN:
+    case RECORD_OLD: break;
+    }
+    return "an earlier program wrote this record";
 }

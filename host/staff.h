@@ -2,7 +2,7 @@
 #ifndef STAFF_H
 #define STAFF_H
 
-#include "channel.h"
+#include "gauges.h"
 
 /* What a record's head, rows and last line say together. */
 enum whole {
@@ -21,7 +21,10 @@ struct staffs {
     uint32_t first;    /* the step of the first row */
     uint32_t accepted; /* the count that the record has come to */
     uint32_t wanted;   /* 0 where the record does not say it */
+    int64_t step_ms;   /* the time of a step; 0 where no row tells it */
     enum whole whole;
+    bool counted;      /* it is whole, complete or open, and says what its gauges counted: */
+    struct waves *waves; /* of each staff */
 };
 
 /* Reads a record and judges it; without `keep` the times and heights are looked at, and not held. */
@@ -32,5 +35,20 @@ int64_t staff_height(const struct staffs *staffs, size_t row, size_t staff);
 
 /* "complete: all 6,000 steps accepted", "open: ..." */
 struct standing staffs_standing(const struct staffs *staffs);
+
+/* Of which steps the heights are that the gauges of a record were fed: "all 6,000 steps", "the first 402 steps", "the
+   140 steps from step 161 on". */
+struct standing fed_words(const struct staffs *staffs);
+
+/* The complete waves at a staff, in um or, for a picture, in mm: "22 waves, mean 50,848 um, largest 134,131 um", "no
+   complete wave". */
+struct standing waves_words(const struct waves *waves, bool in_mm);
+
+/* When the largest of them was, as it was noted: " (from 186.200 s to 209.250 s)", in steps where no row tells the time
+   of one; nothing where there is no wave. */
+struct standing largest_words(const struct staffs *staffs, const struct waves *waves);
+
+/* Why a record tells of no waves: "an earlier program wrote this record", ... */
+const char *uncounted_words(const struct staffs *staffs);
 
 #endif

@@ -56,6 +56,7 @@ void svg_begin(struct text *svg, double width, double height)
              ".surface { stroke: #0b5394; stroke-width: 2.2; fill: none; stroke-linejoin: round; }\n"
              ".water { fill: #9cc9ec; stroke: none; }\n"
              ".bottom { fill: #cdb58a; stroke: #7a6238; stroke-width: 1.5; }\n"
+             ".largest { fill: #fbe0a6; stroke: none; }\n"
              "</style>\n"
              "<rect width=\"%.0f\" height=\"%.0f\" fill=\"#ffffff\"/>\n",
              width, height, width, height, width, height);

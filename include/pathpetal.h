@@ -1,8 +1,9 @@
 /* pathpetal.h: waves along one closed channel, over the bytes of a channel file.
 
    Every call takes numbers and byte strings and gives one number back. A channel lives in the bytes of its file
-   and nowhere else: read a file into memory, call, write the bytes out again. No call allocates, keeps a pointer,
-   prints, or touches a byte outside the strings that it is given.
+   and nowhere else: read a file into memory, call, write the bytes out again. So do gauges, in a byte string of
+   their own beside the file. No call allocates, keeps a pointer, prints, or touches a byte outside the strings
+   that it is given.
 
    Every call ends, for any bytes of any length, in the rule's result or in one numbered refusal, and a refused
    call leaves every byte as it was.
@@ -15,13 +16,28 @@
              face j lies between cells j and j + 1. Each row is looked at wholly before the next, and flux and
              acceleration level by level, the newest first: the place is one in that level. 0 of all other numbers
      count   of a step: how many corrections it took, 1 to 10; of a run: how many steps it accepted, also when it
-             then met a refusal; else 0
+             then met a refusal; of a gauge that was placed: which of the eight it is, 1 to 8; else 0
 
    THE FILE of a channel of n cells has 24 + 64 * n bytes, little-endian: twelve 4-byte counts (edition 1, cells,
    cell width in mm, time step in ms, steps accepted, steps wanted, and where the six rows start), then the rows:
    depth in mm, height above still water in um, velocity in um/s, reduced velocity in um/s (4 bytes a cell,
    signed), flux in um2/s (3 levels of n - 1 faces) and acceleration in um/s2 (3 levels of n cells; 8 bytes each,
    signed). It is complete exactly when as many steps are accepted as are wanted: pathpetal_complete asks that.
+
+   THE GAUGES are 512 bytes, all zeros while there is none: eight places of 64 bytes, each empty (all zeros) or one
+   gauge, in eight numbers of 8 bytes, little-endian and signed:
+     cell       1 to 256
+     fed        how many heights it was fed, 0 to 1,000,000
+     last       the last of them in um, -19,999,000 to 20,000,000; 0 before the first
+     crossings  how many of them were zero or more directly after one below zero: twice that, and one more where
+                the last is below zero, is at most `fed`
+     highest    the highest since the last crossing, in the range of `last`; 0 before the first crossing
+     lowest     the lowest since then, in that range and not above the highest; 0 before the first crossing
+     largest    the largest height of a complete wave in um, 0 to 39,999,000; 0 while there is none
+     sum        of the heights of all complete waves, from `largest` to 39,999,000 times their number
+   A wave runs from one crossing up to, not including, the next; its height is the highest fed in it minus the
+   lowest. What came before the first crossing, and what came since the last, is no complete wave. A number out of
+   its range is refused with 14; what these ranges cannot tell from a gauge that was fed is taken as it stands.
 
    C99 and C++. Link with libpathpetal.a. Calls may run at the same time on different bytes. The strings of one call
    must not overlap, but rows that are only read may be the same one. A string of length 0 may be NULL. A call needs
@@ -50,12 +66,17 @@ enum pathpetal_reason {
     PATHPETAL_FLUX = 9,       /* more water through a face than the file can hold */
     PATHPETAL_UNSETTLED = 10, /* ten corrections did not settle: take a shorter time step or wider cells */
     PATHPETAL_COMPLETE = 11,  /* all wanted steps are already taken: nothing is left to step or filter */
-    PATHPETAL_LENGTH = 12,    /* the file is cut short, too long, or no channel file */
+    PATHPETAL_LENGTH = 12,    /* the file is cut short, too long, or no channel file; or the gauges are not 512 bytes */
     PATHPETAL_EDITION = 13,   /* not a channel file of edition 1 */
-    PATHPETAL_OFFSETS = 14,   /* the file's rows do not stand where they must */
-    PATHPETAL_BUFFER = 15,    /* the room for the file is not exactly 24 + 64 * cells bytes */
+    PATHPETAL_OFFSETS = 14,   /* the file's rows do not stand where they must; or a number of the gauges is out of its
+                                 range */
+    PATHPETAL_BUFFER = 15,    /* the room for the file is not exactly 24 + 64 * cells bytes, or that for the readings
+                                 of gauges is not exactly 48 numbers */
     PATHPETAL_MORE = 16,      /* a run only: as many steps were taken as this call allowed, and the channel is not
                                  complete; call again to go on */
+    PATHPETAL_NINTH_GAUGE = 20, /* eight gauges are placed already */
+    PATHPETAL_OFF_CHANNEL = 21, /* a gauge's cell is not in the channel */
+    PATHPETAL_GAUGE_FULL = 30,  /* a gauge holds 1,000,000 heights already */
     PATHPETAL_BAD_DEPTH = 31,        /* a depth is not 1 to 20,000 mm */
     PATHPETAL_BAD_HEIGHT = 32,       /* a height is not within 20,000,000 um */
     PATHPETAL_BAD_VELOCITY = 33,     /* a velocity is not within 20,000,000 um/s */
@@ -94,6 +115,27 @@ uint64_t pathpetal_filter(uint8_t *file, size_t file_len);
    the refused step's number, with its stage and its place; and count is what this call accepted. Bytes that
    pathpetal_check refuses are refused by the same number and place and stay as they are. */
 uint64_t pathpetal_run(uint8_t *file, size_t file_len, uint64_t most);
+
+/* Gauges: what is counted is proved of the whole record of heights that a gauge was fed. A host feeds them once after
+   each accepted step; what it does not feed is not counted, and a step that is refused feeds nothing. No call alters
+   the channel file. It may be complete, and a state may be fed by one channel after another. */
+enum {
+    PATHPETAL_GAUGES_LENGTH = 512, /* bytes of the gauges */
+    PATHPETAL_READINGS = 48        /* numbers that are read of them */
+};
+
+/* Places a gauge at a cell, counted from 1, in the first place that is empty. Two may stand at one cell. Refused as by
+   pathpetal_check; then 12, 14, 20, 21. */
+uint64_t pathpetal_place_gauge(const uint8_t *file, size_t file_len, uint8_t *gauges, size_t gauges_len, uint64_t cell);
+
+/* Feeds each gauge the height at its cell. Refused as by pathpetal_check; then 12, 14, 21, 30: one gauge that cannot be
+   fed refuses it for all. */
+uint64_t pathpetal_feed_gauges(const uint8_t *file, size_t file_len, uint8_t *gauges, size_t gauges_len);
+
+/* What the gauges have counted: of each of the eight places its cell, the heights fed, crossings, complete waves, the
+   largest height of one and the sum of their heights (um); all six are 0 where there is no gauge. readings_len counts
+   numbers: exactly 48, none of them below zero. Refused: 12, 14, 15. */
+uint64_t pathpetal_read_gauges(const uint8_t *gauges, size_t gauges_len, int64_t *readings, size_t readings_len);
 
 /* The parts of an answer. */
 static inline unsigned pathpetal_number(uint64_t answer) { return (unsigned)(answer / 256 % 256); }

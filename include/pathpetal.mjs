@@ -14,10 +14,18 @@
 //     const answer = pathpetal.run(file);                 // file is then the channel after its accepted steps
 //     if (!answer.complete) console.log(answer.words);
 //
+// Gauges count the waves at marked cells. They live beside the file, in bytes of their own that are all zeros at first,
+// and are fed once after each accepted step; so a run that feeds them allows one step a call:
+//
+//     const gauges = new Uint8Array(GAUGES_LENGTH);
+//     pathpetal.placeGauge(file, gauges, 3);                                        // at cell 3, counted from 1
+//     while (pathpetal.run(file, 1).count === 1) pathpetal.feedGauges(file, gauges);
+//     for (const { cell, waves, largestUm } of pathpetal.readGauges(gauges)) console.log(cell, waves, largestUm);
+//
 // Every call ends in the rule's result or in one numbered refusal, and a refused call leaves every byte of the
-// caller's as it was. make, check, step, filter and read throw a refusal as a Refusal, whose message names the cell or
-// face at fault where there is one. run does not: the steps that it accepted before a refused one are kept in the file,
-// so it gives an answer with their count, and `complete` in it is true only if all wanted steps are taken.
+// caller's as it was. All but run throw a refusal as a Refusal, whose message names the cell or face at fault where
+// there is one. run does not: the steps that it accepted before a refused one are kept in the file, so it gives an
+// answer with their count, and `complete` in it is true only if all wanted steps are taken.
 //
 // What C could not be given either is no refusal but an error of the language: a TypeError where bytes are no
 // Uint8Array, a RangeError where a count is no whole number from 0 to 2^53 - 1, or to 2^64 - 1 as a bigint.
@@ -25,13 +33,28 @@
 // Browsers and node of 2021 or later: the file takes 64-bit numbers as BigInt, which this module hides, and copies
 // memory by the engine's own instructions.
 
+/** The bytes of gauges: `new Uint8Array(GAUGES_LENGTH)` holds none. */
+export const GAUGES_LENGTH = 512;
+
+/** Places for gauges, and the numbers that are read of each. */
+const PLACES = 8;
+const TOLD = 6;
+
 /** The longest channel file and the longest row beside it, in bytes. */
 const FILE_MOST = 24 + 64 * 256;
 const ROW_MOST = 4 * 256;
 
-/** Bytes in a page of WebAssembly memory, and where in the page that is kept for them a file and three rows are lent. */
+/** Bytes in a page of WebAssembly memory. */
 const PAGE = 65536;
-const STARTS = [0, 20480, 22528, 24576];
+
+/**
+ * Where in the page that is kept for them strings are lent, and the longest that a call takes: a file, three rows and
+ * gauges. Behind them are the readings of gauges, numbers of 8 bytes at a multiple of 8.
+ */
+const STARTS = [0, 20480, 22528, 24576, 26624];
+const LONGEST = [FILE_MOST, ROW_MOST, ROW_MOST, ROW_MOST, GAUGES_LENGTH];
+const READINGS = 28672;
+const GAUGES = 4;
 
 /** Node's own module of files, which a page never asks for. */
 const NODE_FILES = 'node:fs/promises';
@@ -52,11 +75,14 @@ export const reasons = Object.freeze({
     9: 'more water through a face than the file can hold',
     10: 'ten corrections did not settle: take a shorter time step or wider cells',
     11: 'all wanted steps are already taken: nothing is left to step or filter',
-    12: 'the file is cut short, too long, or no channel file',
+    12: 'the file is cut short, too long, or no channel file; or the gauges are not 512 bytes',
     13: 'not a channel file of edition 1',
-    14: "the file's rows do not stand where they must",
-    15: 'the room for the file is not exactly 24 + 64 * cells bytes',
+    14: "the file's rows do not stand where they must; or a number of the gauges is out of its range",
+    15: 'the room for the file is not exactly 24 + 64 * cells bytes, or that for the readings of gauges is not exactly 48 numbers',
     16: 'a run only: as many steps were taken as this call allowed, and the channel is not complete; call again to go on',
+    20: 'eight gauges are placed already',
+    21: "a gauge's cell is not in the channel",
+    30: 'a gauge holds 1,000,000 heights already',
     31: 'a depth is not 1 to 20,000 mm',
     32: 'a height is not within 20,000,000 um',
     33: 'a velocity is not within 20,000,000 um/s',
@@ -77,7 +103,7 @@ export class Refusal extends Error {
         super(`refused ${number}${where}${stage ? ` at correction ${stage}` : ''}: ${reasons[number]}`);
         this.name = 'Refusal';
         /**
-         * Why: 1, 2, 4 to 15 or 31 to 37, as in pathpetal.h.
+         * Why: 1, 2, 4 to 15, 20, 21 or 30 to 37, as in pathpetal.h.
          * @type {number}
          */
         this.number = number;
@@ -155,6 +181,18 @@ export function row(values) {
  */
 
 /**
+ * @typedef {object} Gauge what a gauge has counted. A crossing is a height of zero or more directly after one below
+ *     zero; a wave runs from one crossing up to the next, and its height is the highest fed in it minus the lowest
+ * @property {number} place which of the eight it is, 1 to 8
+ * @property {number} cell where it stands, counted from 1
+ * @property {number} fed how many heights it was fed
+ * @property {number} crossings
+ * @property {number} waves complete ones: neither what came before the first crossing nor what came since the last
+ * @property {number} largestUm the largest height of a wave in um, 0 if there is none
+ * @property {number} sumUm of the heights of all waves in um: over `waves` it is their mean
+ */
+
+/**
  * @typedef {object} RunAnswer what a run came to
  * @property {boolean} complete whether all wanted steps are taken: ask this, and nothing else, to call a run finished
  * @property {number} number 0 when complete, 16 when not and no step was refused, else why a step or the file was refused
@@ -177,7 +215,7 @@ export function row(values) {
  * @typedef {Record<string, (...given: (number | bigint)[]) => bigint>} Calls
  */
 
-const names = ['make', 'check', 'step', 'filter', 'run'].map((name) => `pathpetal_${name}`);
+const names = ['make', 'check', 'step', 'filter', 'run', 'place_gauge', 'feed_gauges', 'read_gauges'].map((name) => `pathpetal_${name}`);
 
 /**
  * @param {number | bigint} count
@@ -254,21 +292,22 @@ export class Pathpetal {
      * Lends bytes to the library: copies them to the room, at most one more than the longest that a call takes, since
      * what is longer is refused all the same. Gives the two arguments that stand for them.
      * @param {Uint8Array} bytes
-     * @param {number} string 0 for a file, 1 to 3 for a row
+     * @param {number} string 0 for a file, 1 to 3 for a row, GAUGES for gauges
      * @returns {[number, bigint]}
      */
     #lend(bytes, string) {
-        const lent = bytes.subarray(0, (string === 0 ? FILE_MOST : ROW_MOST) + 1);
+        const lent = bytes.subarray(0, LONGEST[string] + 1);
         this.#room.set(lent, STARTS[string]);
         return [this.#at + STARTS[string], BigInt(lent.length)];
     }
 
     /**
-     * Copies the lent file back.
-     * @param {Uint8Array} file
+     * Copies lent bytes back.
+     * @param {Uint8Array} bytes
+     * @param {number} [string] 0 for a file, GAUGES for gauges
      */
-    #take(file) {
-        file.set(this.#room.subarray(0, file.length));
+    #take(bytes, string = 0) {
+        bytes.set(this.#room.subarray(STARTS[string], STARTS[string] + bytes.length));
     }
 
     /**
@@ -348,6 +387,62 @@ export class Pathpetal {
         if (answer.count > 0)
             this.#take(file);
         return { complete: answer.number === 0, ...answer, words: reasons[answer.number] };
+    }
+
+    /**
+     * Places a gauge at a cell, in the first place that is empty. Two may stand at one cell.
+     * @param {Uint8Array} file
+     * @param {Uint8Array} gauges GAUGES_LENGTH bytes, all zeros while there is none
+     * @param {number | bigint} cell counted from 1
+     * @returns {number} which of the eight it is, 1 to 8
+     * @throws {Refusal} as by `check`; then 12, 14, 20, 21
+     */
+    placeGauge(file, gauges, cell) {
+        const place = accepted(parts(this.#calls.pathpetal_place_gauge(
+            ...this.#lend(checked(file, 'file'), 0),
+            ...this.#lend(checked(gauges, 'gauges'), GAUGES),
+            whole(cell, 'cell'),
+        )));
+        this.#take(gauges, GAUGES);
+        return place;
+    }
+
+    /**
+     * Feeds each gauge the height at its cell: once after each accepted step, for what is not fed is not counted. The
+     * channel stays as it is, and may be complete.
+     * @param {Uint8Array} file
+     * @param {Uint8Array} gauges
+     * @returns {void}
+     * @throws {Refusal} as by `check`; then 12, 14, 21, 30: one gauge that cannot be fed refuses it for all
+     */
+    feedGauges(file, gauges) {
+        accepted(parts(this.#calls.pathpetal_feed_gauges(
+            ...this.#lend(checked(file, 'file'), 0),
+            ...this.#lend(checked(gauges, 'gauges'), GAUGES),
+        )));
+        this.#take(gauges, GAUGES);
+    }
+
+    /**
+     * What the gauges have counted.
+     * @param {Uint8Array} gauges
+     * @returns {Gauge[]} the gauges that are placed, in the order of their places
+     * @throws {Refusal} 12, 14
+     */
+    readGauges(gauges) {
+        accepted(parts(this.#calls.pathpetal_read_gauges(
+            ...this.#lend(checked(gauges, 'gauges'), GAUGES),
+            this.#at + READINGS,
+            BigInt(PLACES * TOLD),
+        )));
+        const view = new DataView(this.#room.buffer, this.#at + READINGS, 8 * PLACES * TOLD);
+        const all = Array.from({ length: PLACES }, (_, i) => {
+            // at most 2 * 10^13, so that a number holds each
+            const [cell, fed, crossings, waves, largestUm, sumUm] =
+                Array.from({ length: TOLD }, (_, k) => Number(view.getBigInt64(8 * (TOLD * i + k), true)));
+            return { place: i + 1, cell, fed, crossings, waves, largestUm, sumUm };
+        });
+        return all.filter(({ cell }) => cell > 0);
     }
 
     /**

@@ -22,6 +22,9 @@ enum {
 #define Q_MOST INT64_C(1000000000000000)
 #define F_MOST INT64_C(100000000000)
 #define s_MOST INT64_C(1000000)
+#define e_LEAST (H_LEAST - 1000 * h_MOST) /* of any channel */
+#define WAVE_MOST (e_MOST - e_LEAST)
+#define RECORD_MOST INT64_C(1000000)
 
 /* Each number that is rounded, with the name of the place that rounds it. A
    source that takes this one in may look at the numbers by macros of its own. */
@@ -914,4 +917,172 @@ struct second_answer second_print(const uint8_t *bytes, size_t len, char text[SE
     snprintf(text, SECOND_LINE, "%" PRIu64 " %" PRIu64 " %" PRIu64 " %s %" PRId64 "\n", taken.N,
              taken.accepted, taken.wanted, complete(&taken) ? "done" : "open", sum);
     return answer;
+}
+
+/* The first crossing of a record at or after a place in it; its length if
+   there is none. */
+static size_t crossing_from(struct second_read_row record, size_t i)
+{
+    for (i = i > 1 ? i : 1; i < record.len; i++)
+        if (record.at[i] >= 0 && record.at[i - 1] < 0)
+            return i;
+    return record.len;
+}
+
+/* The highest of the heights from one place up to another, less the lowest. */
+static int64_t span(const int64_t *from, const int64_t *to)
+{
+    int64_t high = *from, low = *from;
+    for (; from < to; from++) {
+        high = *from > high ? *from : high;
+        low = *from < low ? *from : low;
+    }
+    return high - low;
+}
+
+struct second_waves second_waves(struct second_read_row record)
+{
+    struct second_waves found = {0};
+    size_t start = crossing_from(record, 0), end;
+    for (; start < record.len; start = end) {
+        found.crossings++;
+        end = crossing_from(record, start + 1);
+        if (end < record.len) {
+            int64_t height = span(record.at + start, record.at + end);
+            found.waves++;
+            found.sum += height;
+            found.largest = height > found.largest ? height : found.largest;
+        }
+    }
+    return found;
+}
+
+/* A gauge's numbers, in the order of their bytes. */
+enum { CELL, FED, LAST, CROSSINGS, HIGHEST, LOWEST, LARGEST, SUM, GAUGE };
+
+/* The gauges of a state. */
+struct gauges {
+    int64_t at[SECOND_GAUGES][GAUGE];
+};
+
+static bool no_gauge(const int64_t *g)
+{
+    return row_within(g, GAUGE, 0, 0);
+}
+
+static int64_t complete_waves(const int64_t *g)
+{
+    return g[CROSSINGS] > 0 ? g[CROSSINGS] - 1 : 0;
+}
+
+/* Each number by itself, so that none overflows; then those that depend on
+   others. Every crossing took a height below zero before it. */
+static bool gauge_allowed(const int64_t *g)
+{
+    static const int64_t low[GAUGE] = {1, 0, e_LEAST, 0, e_LEAST, e_LEAST, 0, 0};
+    static const int64_t high[GAUGE] = {CELLS,  RECORD_MOST, e_MOST,    RECORD_MOST,
+                                        e_MOST, e_MOST,      WAVE_MOST, WAVE_MOST * RECORD_MOST};
+    for (size_t i = 0; i < GAUGE; i++)
+        if (g[i] < low[i] || g[i] > high[i])
+            return false;
+    return g[LOWEST] <= g[HIGHEST] && 2 * g[CROSSINGS] + (g[LAST] < 0) <= g[FED] &&
+           g[LARGEST] <= g[SUM] && g[SUM] <= WAVE_MOST * complete_waves(g);
+}
+
+/* Reads a state: 12, 14, or 0 if it is one. */
+static unsigned take_gauges(const uint8_t *state, size_t len, struct gauges *gauges)
+{
+    if (len != SECOND_STATE)
+        return 12;
+    for (size_t i = 0; i < SECOND_GAUGES; i++, state += 8 * GAUGE) {
+        int64_t *g = gauges->at[i];
+        take_longs(state, (struct second_row){g, GAUGE});
+        if (!no_gauge(g) && !gauge_allowed(g))
+            return 14;
+    }
+    return 0;
+}
+
+/* The channel's own refusal, then the state's. */
+static struct second_answer gauges_refusal(const struct second_channel *channel,
+                                           const uint8_t *state, size_t len,
+                                           struct gauges *gauges)
+{
+    struct work k;
+    struct second_answer answer = input_refusal(&k, channel, NULL);
+    return answer.number ? answer : refusal(take_gauges(state, len, gauges), 0, 0);
+}
+
+struct second_answer second_place_gauge(const struct second_channel *channel, uint8_t *state,
+                                        size_t len, uint64_t cell)
+{
+    struct gauges gauges;
+    size_t i = 0;
+    struct second_answer answer = gauges_refusal(channel, state, len, &gauges);
+    if (answer.number)
+        return answer;
+    while (i < SECOND_GAUGES && !no_gauge(gauges.at[i]))
+        i++;
+    if (i == SECOND_GAUGES)
+        return refusal(20, 0, 0);
+    if (cell < 1 || cell > channel->N)
+        return refusal(21, 0, 0);
+    put(state + 8 * (GAUGE * i + CELL), cell, 8);
+    return acceptance(i + 1);
+}
+
+/* A gauge fed one more height: each number after it, by those before it. */
+static void feed(int64_t *g, int64_t e)
+{
+    bool crossing = g[LAST] < 0 && e >= 0, open = g[CROSSINGS] > 0;
+    int64_t height = crossing && open ? g[HIGHEST] - g[LOWEST] : 0; /* of the wave that ends */
+    const int64_t after[GAUGE] = {
+        [CELL] = g[CELL],
+        [FED] = g[FED] + 1,
+        [LAST] = e,
+        [CROSSINGS] = g[CROSSINGS] + crossing,
+        [HIGHEST] = crossing || (open && e > g[HIGHEST]) ? e : g[HIGHEST],
+        [LOWEST] = crossing || (open && e < g[LOWEST]) ? e : g[LOWEST],
+        [LARGEST] = height > g[LARGEST] ? height : g[LARGEST],
+        [SUM] = g[SUM] + height,
+    };
+    memcpy(g, after, sizeof after);
+}
+
+struct second_answer second_feed_gauges(const struct second_channel *channel, uint8_t *state,
+                                        size_t len)
+{
+    struct gauges gauges;
+    struct second_answer answer = gauges_refusal(channel, state, len, &gauges);
+    if (answer.number)
+        return answer;
+    for (size_t i = 0; i < SECOND_GAUGES; i++)
+        if (gauges.at[i][CELL] > (int64_t)channel->N)
+            return refusal(21, 0, 0);
+    for (size_t i = 0; i < SECOND_GAUGES; i++)
+        if (gauges.at[i][FED] == RECORD_MOST)
+            return refusal(30, 0, 0);
+    for (size_t i = 0; i < SECOND_GAUGES; i++)
+        if (!no_gauge(gauges.at[i]))
+            feed(gauges.at[i], channel->e.at[gauges.at[i][CELL] - 1]);
+    put_row(state, (struct second_row){gauges.at[0], SECOND_GAUGES * GAUGE}, 8);
+    return acceptance(0);
+}
+
+struct second_answer second_read_gauges(const uint8_t *state, size_t len,
+                                        struct second_row readings)
+{
+    struct gauges gauges;
+    unsigned number = take_gauges(state, len, &gauges);
+    if (!number && readings.len != SECOND_READINGS)
+        number = 15;
+    if (number)
+        return refusal(number, 0, 0);
+    for (size_t i = 0; i < SECOND_GAUGES; i++) {
+        const int64_t *g = gauges.at[i];
+        const int64_t told[6] = {g[CELL],           g[FED],     g[CROSSINGS],
+                                 complete_waves(g), g[LARGEST], g[SUM]};
+        memcpy(readings.at + 6 * i, told, sizeof told);
+    }
+    return acceptance(0);
 }

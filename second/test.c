@@ -2,7 +2,6 @@
    bounds. The inner functions are reached by taking in the source itself. */
 #include "second.c"
 
-
 static unsigned passed, failed;
 
 static void check(bool good, const char *what)
@@ -1193,6 +1192,275 @@ static void printed(void)
     check(strcmp(text, "256 1000000 1000000 done -5119744000\n") == 0, "the longest line");
 }
 
+/* A record and what is counted of it. */
+#define RECORD(...) \
+    (struct second_read_row){(const int64_t[]){__VA_ARGS__}, \
+                             sizeof(int64_t[]){__VA_ARGS__} / sizeof(int64_t)}
+
+static void check_waves(struct second_read_row record, uint64_t crossings, uint64_t waves,
+                        int64_t largest, int64_t sum, const char *what)
+{
+    struct second_waves got = second_waves(record);
+    bool good = got.crossings == crossings && got.waves == waves && got.largest == largest &&
+                got.sum == sum;
+    check(good, what);
+    if (!good)
+        printf("  got %" PRIu64 " %" PRIu64 " %" PRId64 " %" PRId64 "\n", got.crossings, got.waves,
+               got.largest, got.sum);
+}
+
+static void whole_records(void)
+{
+    check_waves((struct second_read_row){NULL, 0}, 0, 0, 0, 0, "no height");
+    check_waves(RECORD(5), 0, 0, 0, 0, "one height");
+    check_waves(RECORD(-5), 0, 0, 0, 0, "one height below zero");
+    check_waves(RECORD(-1, 0, 5, -3, -1, 2, 7, -2, 0, 3), 3, 2, 9, 17, "the worked example");
+    check_waves(RECORD(-1, 0), 1, 0, 0, 0, "zero after one below zero is a crossing");
+    check_waves(RECORD(0, 0, 0, 0), 0, 0, 0, 0, "zero after zero is none");
+    check_waves(RECORD(0, 1, 2), 0, 0, 0, 0, "the first height is none");
+    check_waves(RECORD(4, 4, 4), 0, 0, 0, 0, "a constant one");
+    check_waves(RECORD(-4, -4, -4), 0, 0, 0, 0, "a constant one below zero");
+    check_waves(RECORD(-3, -2, -1, 0, 1, 2), 1, 0, 0, 0, "rising only");
+    check_waves(RECORD(3, 2, 1, 0, -1, -2), 0, 0, 0, 0, "falling only");
+    check_waves(RECORD(-1, 0, -1, 0, -1), 2, 1, 1, 1, "touching zero from below");
+    check_waves(RECORD(1, 0, 1, 0, 1), 0, 0, 0, 0, "touching zero from above");
+    check_waves(RECORD(-1, 0, 0, 0, -2, 0, 0), 2, 1, 2, 2, "staying at zero");
+    check_waves(RECORD(-50, 1, 3, -1, 2), 2, 1, 4, 4, "what came before the first crossing");
+    check_waves(RECORD(-1, 1, 3, -1, 90), 2, 1, 4, 4, "a crossing's height is the next wave's");
+    check_waves(RECORD(-1, 1, 3, -1, 2, 80, -70), 2, 1, 4, 4, "the open wave counts nowhere");
+    check_waves(RECORD(-1, 1, 9, -9, 1, 2, -3, 0), 3, 2, 18, 23, "the largest may come first");
+    check_waves(RECORD(-19999000, 20000000, -19999000, 20000000), 2, 1, 39999000, 39999000,
+                "the highest wave");
+}
+
+static void longest_record(void)
+{
+    static int64_t at[1000000];
+    for (size_t i = 0; i < 1000000; i++)
+        at[i] = i % 2 ? 20000000 : -19999000;
+    check_waves((struct second_read_row){at, 1000000}, 500000, 499999, 39999000, 19999460001000,
+                "the longest record holds at most so much");
+}
+
+/* A gauge of a state. */
+static void set_gauge(uint8_t *state, size_t i, const int64_t *g)
+{
+    put_row(state + 8 * GAUGE * i, (struct second_row){(int64_t *)g, GAUGE}, 8);
+}
+
+/* The state of the gauges with a byte that nobody may touch on each side. */
+struct gauge_rig {
+    struct rig rig;
+    uint8_t before, state[SECOND_STATE], behind;
+};
+
+static void gauges_of(struct gauge_rig *g, size_t N)
+{
+    memset(g, 0, sizeof *g);
+    still(&g->rig, N);
+    depths(&g->rig, 20000);
+    g->rig.c.X = 5000;
+    g->before = g->behind = 0x5a;
+}
+
+enum gauge_call { PLACE, FEED, TELL };
+
+static struct second_answer gauge_call(struct gauge_rig *g, enum gauge_call which, size_t len,
+                                       uint64_t cell)
+{
+    int64_t told[SECOND_READINGS];
+    switch (which) {
+    case PLACE:
+        return second_place_gauge(&g->rig.c, g->state, len, cell);
+    case FEED:
+        return second_feed_gauges(&g->rig.c, g->state, len);
+    default:
+        return second_read_gauges(g->state, len, (struct second_row){told, cell ? 48 : 47});
+    }
+}
+
+static void gauge_refused(struct gauge_rig *g, enum gauge_call which, size_t len, uint64_t cell,
+                          unsigned number, const char *what)
+{
+    static struct gauge_rig before;
+    memcpy(&before, g, sizeof before);
+    check_answer(gauge_call(g, which, len, cell), number, 0, 0, 0, what);
+    check(memcmp(&before, g, sizeof before) == 0, "a refused call of a gauge changes nothing");
+}
+
+static void check_gauge(const struct gauge_rig *g, size_t i, const int64_t *due, const char *what)
+{
+    struct gauges got;
+    check(take_gauges(g->state, SECOND_STATE, &got) == 0, "a state");
+    check_row(got.at[i], due, GAUGE, what);
+}
+
+static void feed_each(struct gauge_rig *g, size_t cell, struct second_read_row record)
+{
+    for (size_t i = 0; i < record.len; i++) {
+        g->rig.c.e.at[cell - 1] = record.at[i];
+        check_accepted(gauge_call(g, FEED, SECOND_STATE, 0), 0, "gauges are fed");
+    }
+}
+
+static void placing(void)
+{
+    static struct gauge_rig g;
+    gauges_of(&g, 8);
+    feed_each(&g, 3, RECORD(-1, 1));
+    for (size_t i = 0; i < SECOND_STATE; i++)
+        check(g.state[i] == 0, "feeding where there is no gauge");
+    gauge_refused(&g, PLACE, SECOND_STATE, 0, 21, "cell 0");
+    gauge_refused(&g, PLACE, SECOND_STATE, 9, 21, "the cell behind the last");
+    gauge_refused(&g, PLACE, SECOND_STATE, UINT64_MAX, 21, "cell 2^64 - 1");
+    gauge_refused(&g, PLACE, SECOND_STATE, UINT64_C(0x100000001), 21, "cell 2^32 + 1");
+    for (uint64_t i = 1; i <= 8; i++)
+        check_accepted(gauge_call(&g, PLACE, SECOND_STATE, i == 2 ? 1 : i), i, "a gauge's place");
+    check_gauge(&g, 1, (int64_t[GAUGE]){1}, "two at one cell, with nothing fed");
+    gauge_refused(&g, PLACE, SECOND_STATE, 3, 20, "a ninth gauge");
+    gauge_refused(&g, PLACE, SECOND_STATE, 9, 20, "a ninth gauge before its cell");
+    memset(g.state + 64 * 3, 0, 64);
+    memset(g.state + 64 * 6, 0, 64);
+    check_accepted(gauge_call(&g, PLACE, SECOND_STATE, 5), 4, "the lowest empty place");
+    check_gauge(&g, 3, (int64_t[GAUGE]){5}, "its cell");
+    check(g.before == 0x5a && g.behind == 0x5a, "the bytes about a state");
+}
+
+static void feeding(void)
+{
+    static struct gauge_rig g;
+    static int64_t told[SECOND_READINGS];
+    gauges_of(&g, 8);
+    gauge_call(&g, PLACE, SECOND_STATE, 2);
+    feed_each(&g, 2, RECORD(-1, 0, 5, -3));
+    check_gauge(&g, 0, (int64_t[GAUGE]){2, 4, -3, 1, 5, -3, 0, 0}, "the example to its fourth");
+    gauge_call(&g, PLACE, SECOND_STATE, 2);
+    feed_each(&g, 2, RECORD(-1, 2, 7, -2, 0, 3));
+    check_gauge(&g, 0, (int64_t[GAUGE]){2, 10, 3, 3, 3, 0, 9, 17}, "the worked example");
+    check_gauge(&g, 1, (int64_t[GAUGE]){2, 6, 3, 2, 3, 0, 9, 9}, "a gauge placed late");
+    g.rig.c.accepted = g.rig.c.wanted;
+    feed_each(&g, 2, RECORD(-9));
+    check_gauge(&g, 0, (int64_t[GAUGE]){2, 11, -9, 3, 3, -9, 9, 17}, "a complete channel feeds");
+    check_accepted(second_read_gauges(g.state, SECOND_STATE, (struct second_row){told, 48}), 0,
+                   "gauges are read");
+    check_row(told, (int64_t[18]){2, 11, 3, 2, 9, 17, 2, 7, 2, 1, 9, 9}, 18, "what is read");
+    check(g.before == 0x5a && g.behind == 0x5a, "the bytes about a state");
+}
+
+/* States that no record gives, fed by the rule all the same. */
+static void feeding_any_state(void)
+{
+    static struct gauge_rig g;
+    static const int64_t from[3][GAUGE] = {{1, 9, -5, 0, 70, 60, 0, 0},
+                                           {1, 9, -5, 2, -70, -80, 3, 4},
+                                           {1, 9, 5, 2, -70, -80, 3, 4}};
+    static const int64_t to[3][GAUGE] = {{1, 10, 6, 1, 6, 6, 0, 0},
+                                         {1, 10, 6, 3, 6, 6, 10, 14},
+                                         {1, 10, 6, 2, 6, -80, 3, 4}};
+    static const int64_t on[3][GAUGE] = {{1, 10, -6, 0, 70, 60, 0, 0},
+                                         {1, 10, -6, 2, -6, -80, 3, 4},
+                                         {1, 10, -6, 2, -6, -80, 3, 4}};
+    for (size_t i = 0; i < 3; i++) {
+        gauges_of(&g, 8);
+        set_gauge(g.state, 5, from[i]);
+        feed_each(&g, 1, RECORD(6));
+        check_gauge(&g, 5, to[i], "any state fed a height above zero");
+        set_gauge(g.state, 5, from[i]);
+        feed_each(&g, 1, RECORD(-6));
+        check_gauge(&g, 5, on[i], "any state fed a height below zero");
+    }
+}
+
+/* A number of an allowed gauge set so: whether its state is then one. */
+static void gauge_number(const int64_t *from, size_t number, int64_t to, bool allowed)
+{
+    static struct gauge_rig g;
+    int64_t changed[GAUGE];
+    memcpy(changed, from, sizeof changed);
+    changed[number] = to;
+    gauges_of(&g, 8);
+    set_gauge(g.state, 7, changed);
+    if (allowed)
+        check_accepted(gauge_call(&g, TELL, SECOND_STATE, 1), 0, "a gauge at its bounds");
+    else
+        for (enum gauge_call which = PLACE; which <= TELL; which++)
+            gauge_refused(&g, which, SECOND_STATE, 1, 14, "a gauge out of its bounds");
+}
+
+static void gauge_bounds(void)
+{
+    static const int64_t g[GAUGE] = {4, 21, -7, 10, 6, 2, 5, 40};
+    static const int64_t low[GAUGE] = {1, 21, -19999000, 2, 2, -19999000, 0, 5};
+    static const int64_t high[GAUGE] = {256, 1000000, 20000000, 10, 20000000, 6, 40, 359991000};
+    for (size_t i = 0; i < GAUGE; i++) {
+        gauge_number(g, i, low[i], true);
+        gauge_number(g, i, high[i], true);
+        gauge_number(g, i, low[i] - 1, false);
+        gauge_number(g, i, high[i] + 1, false);
+        gauge_number(g, i, INT64_MAX, false);
+        gauge_number(g, i, INT64_MIN, false);
+    }
+    gauge_number((int64_t[GAUGE]){4, 1, 0, 0, 0, 0, 0, 0}, SUM, 1, false);
+    gauge_number((int64_t[GAUGE]){4, 2, 0, 1, 0, 0, 0, 0}, SUM, 1, false);
+    gauge_number((int64_t[GAUGE]){4, 4, 0, 2, 0, 0, 0, 0}, SUM, 39999000, true);
+    gauge_number((int64_t[GAUGE]){4, 1, -1, 0, 0, 0, 0, 0}, FED, 0, false);
+    gauge_number((int64_t[GAUGE]){4, 6, 0, 3, 0, 0, 9, 79998000}, LARGEST, 39999000, true);
+    gauge_number((int64_t[GAUGE]){4, 6, 0, 3, 0, 0, 9, 79998000}, LARGEST, 39999001, false);
+    for (size_t i = 0; i < GAUGE; i++)
+        gauge_number((int64_t[GAUGE]){0}, i, 1, i == CELL);
+}
+
+static void gauge_order(void)
+{
+    static struct gauge_rig g;
+    static const int64_t full[GAUGE] = {8, 1000000, 5, 0, 0, 0, 0, 0}, far[GAUGE] = {9};
+    gauges_of(&g, 8);
+    set_gauge(g.state, 0, full);
+    gauge_refused(&g, FEED, SECOND_STATE, 0, 30, "a gauge that is full");
+    set_gauge(g.state, 1, far);
+    gauge_refused(&g, FEED, SECOND_STATE, 0, 21, "a cell off the channel before a full gauge");
+    check_accepted(gauge_call(&g, PLACE, SECOND_STATE, 1), 3, "placing looks at neither");
+    for (size_t i = 0; i < 8; i++)
+        set_gauge(g.state, i, full);
+    put(g.state + 8 * 9, UINT64_MAX, 8);
+    gauge_refused(&g, PLACE, SECOND_STATE, 0, 14, "a state out of its bounds before a ninth gauge");
+    gauge_refused(&g, FEED, SECOND_STATE, 0, 14, "and before a full one");
+    gauge_refused(&g, TELL, SECOND_STATE, 0, 14, "and before the room for the readings");
+    gauge_refused(&g, TELL, SECOND_STATE - 1, 0, 12, "a short state first");
+    gauge_refused(&g, FEED, SECOND_STATE + 1, 0, 12, "a long state first");
+    gauge_refused(&g, PLACE, 0, 0, 12, "no state first");
+    g.rig.c.X = 9;
+    gauge_refused(&g, PLACE, 0, 0, 2, "the channel's own refusal before all");
+    gauge_refused(&g, FEED, 0, 0, 2, "the channel's own refusal before all");
+    gauges_of(&g, 8);
+    gauge_refused(&g, TELL, SECOND_STATE, 0, 15, "room for 47 readings");
+    g.rig.c.e.at[4] = -19999001;
+    check_answer(gauge_call(&g, FEED, 0, 0), 4, 0, 5, 0, "the channel's refusal has its place");
+}
+
+/* Records of any kind: the state fed step by step and the whole record. */
+static void states_and_records(void)
+{
+    static struct gauge_rig g;
+    static int64_t told[SECOND_READINGS], record[40];
+    uint64_t seed = 7;
+    bool good = true;
+    for (int round = 0; round < 2000; round++) {
+        gauges_of(&g, 8);
+        gauge_call(&g, PLACE, SECOND_STATE, 8);
+        for (size_t i = 0; i < 40; i++) {
+            seed = seed * 6364136223846793005u + 1442695040888963407u;
+            g.rig.c.e.at[7] = record[i] = (int64_t)(seed >> 40) % 7 - 3;
+            gauge_call(&g, FEED, SECOND_STATE, 0);
+            second_read_gauges(g.state, SECOND_STATE, (struct second_row){told, 48});
+            struct second_waves due = second_waves((struct second_read_row){record, i + 1});
+            good = good && told[1] == (int64_t)i + 1 && told[2] == (int64_t)due.crossings &&
+                   told[3] == (int64_t)due.waves && told[4] == due.largest && told[5] == due.sum;
+        }
+    }
+    check(good, "states count what the whole records hold");
+}
+
 int main(void)
 {
     case_1_rounding();
@@ -1237,6 +1505,14 @@ int main(void)
     file_offsets();
     file_lent_rows();
     printed();
+    whole_records();
+    longest_record();
+    placing();
+    feeding();
+    feeding_any_state();
+    gauge_bounds();
+    gauge_order();
+    states_and_records();
     printf("%u passed, %u failed\n", passed, failed);
     return failed != 0;
 }

@@ -14,8 +14,8 @@
 
 enum { AROUND = 64, MARK = 0xA5 };
 
-/* The strings as they are lent, each with marked bytes on both sides. */
-static uint8_t place[STRINGS][AROUND + LONGEST + AROUND];
+/* The strings as they are lent, each with marked bytes on both sides: those of numbers at a multiple of 8. */
+static _Alignas(8) uint8_t place[STRINGS][AROUND + LONGEST + AROUND];
 
 static void lay_out(const struct record *r)
 {
@@ -41,7 +41,7 @@ static bool kept(const struct record *r)
     for (int i = 0; i < STRINGS; i++) {
         const struct string *s = &r->string[i];
         all = all && marked(place[i]) && marked(place[i] + AROUND + s->len);
-        all = all && (i == FILE_STRING || !memcmp(place[i] + AROUND, s->at, s->len));
+        all = all && (i == changed_by(r->kind) || !memcmp(place[i] + AROUND, s->at, s->len));
     }
     return all;
 }
@@ -57,7 +57,12 @@ static uint64_t does(const struct record *r)
     case DO_STEP: return DOES(step)(LENT(FILE_STRING), LENT(FIRST_ROW));
     case DO_FILTER: return DOES(filter)(LENT(FILE_STRING));
     case DO_CHECK: return DOES(check)(LENT(FILE_STRING));
-    default: return DOES(run)(LENT(FILE_STRING), n[0]);
+    case DO_RUN: return DOES(run)(LENT(FILE_STRING), n[0]);
+    case DO_PLACE: return DOES(place_gauge)(LENT(FILE_STRING), LENT(GAUGES_STRING), n[0]);
+    case DO_FEED: return DOES(feed_gauges)(LENT(FILE_STRING), LENT(GAUGES_STRING));
+    default:
+        return DOES(read_gauges)(LENT(GAUGES_STRING), (int64_t *)(void *)(place[READINGS_STRING] + AROUND),
+                                 r->string[READINGS_STRING].len / 8);
     }
 }
 
@@ -75,8 +80,8 @@ int main(int argc, char **argv)
         lay_out(&call);
         reply.answer = does(&call);
         reply.kept = kept(&call);
-        reply.file.len = call.string[FILE_STRING].len;
-        memcpy(reply.file.at, place[FILE_STRING] + AROUND, reply.file.len);
+        reply.left.len = call.string[changed_by(call.kind)].len;
+        memcpy(reply.left.at, place[changed_by(call.kind)] + AROUND, reply.left.len);
         put_reply(answers, &reply);
     }
     if (fclose(answers)) {

@@ -157,3 +157,24 @@ uint64_t by_second_run(uint8_t *file, size_t file_len, uint64_t most)
     struct second_answer a = read(file, file_len, &channel, &rows);
     return a.number ? packed(a) : written(steps(&channel, most), &channel, file, file_len);
 }
+
+uint64_t by_second_place_gauge(const uint8_t *file, size_t file_len, uint8_t *gauges, size_t gauges_len, uint64_t cell)
+{
+    struct second_channel channel;
+    struct rows rows;
+    struct second_answer a = read(file, file_len, &channel, &rows);
+    return packed(a.number ? a : second_place_gauge(&channel, gauges, gauges_len, cell));
+}
+
+uint64_t by_second_feed_gauges(const uint8_t *file, size_t file_len, uint8_t *gauges, size_t gauges_len)
+{
+    struct second_channel channel;
+    struct rows rows;
+    struct second_answer a = read(file, file_len, &channel, &rows);
+    return packed(a.number ? a : second_feed_gauges(&channel, gauges, gauges_len));
+}
+
+uint64_t by_second_read_gauges(const uint8_t *gauges, size_t gauges_len, int64_t *readings, size_t readings_len)
+{
+    return packed(second_read_gauges(gauges, gauges_len, (struct second_row){readings, readings_len}));
+}

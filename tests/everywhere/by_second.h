@@ -12,5 +12,8 @@ uint64_t by_second_check(const uint8_t *file, size_t file_len);
 uint64_t by_second_step(uint8_t *file, size_t file_len, const uint8_t *poured, size_t poured_len);
 uint64_t by_second_filter(uint8_t *file, size_t file_len);
 uint64_t by_second_run(uint8_t *file, size_t file_len, uint64_t most);
+uint64_t by_second_place_gauge(const uint8_t *file, size_t file_len, uint8_t *gauges, size_t gauges_len, uint64_t cell);
+uint64_t by_second_feed_gauges(const uint8_t *file, size_t file_len, uint8_t *gauges, size_t gauges_len);
+uint64_t by_second_read_gauges(const uint8_t *gauges, size_t gauges_len, int64_t *readings, size_t readings_len);
 
 #endif

@@ -1,6 +1,6 @@
 /* calls write CALLS: draws calls of pathpetal.h from one seed and writes them to the file CALLS. What each would
    answer is asked of the second program, so that accepted calls, each refusal at each stage, the first, middle and last
-   places of those that have one, and each k from 1 to 10 all have their share.
+   places of those that have one, and each k from 1 to 10 all have their share. The calls of gauges come last.
    calls table CALLS ANSWERS: prints how often each answer occurred; fails if one that is known to occur did not, or if
    a call touched a byte that is not its own.
    calls differ CALLS ANSWERS OTHERS..: prints the first calls that one of the OTHERS answers differently, and last 'N
@@ -13,9 +13,9 @@
 #include <inttypes.h>
 
 enum { REASONS = 38, STAGES = 11, EACH = 5000, MOST_DRAWN = 4000000 };
-static const char *const names[DO_KINDS] = {"make", "step", "filter", "check", "run"};
+static const char *const names[DO_KINDS] = {"make", "step", "filter", "check", "run", "place", "feed", "read"};
 
-enum { V_HALVES, FLUX_HALVES, U_HALVES, THIN, FAULTS, EDGE, VIOLENT, ANY, DRAWN, SCENES };
+enum { V_HALVES, FLUX_HALVES, U_HALVES, THIN, FAULTS, EDGE, VIOLENT, ANY, DRAWN, WATCHED, ENDS, GAUGE_FAULTS, SCENES };
 static const char *const scenes[SCENES] = {
     "every inner V of make is exactly a half",
     "dispersive parts are exactly halves",
@@ -26,6 +26,9 @@ static const char *const scenes[SCENES] = {
     "fast or much poured, over long steps",
     "levels that do not belong to the heights",
     "drawn at random",
+    "gauges placed, fed and read in a row",
+    "numbers of gauges at the ends of their ranges",
+    "several faults of a file and its gauges at once",
 };
 
 enum { AT_FIRST, BETWEEN, AT_LAST, PLACES };
@@ -34,6 +37,10 @@ static const char *const places[PLACES] = {"the first place", "a place between",
 /* How often each answer occurred, of a step by its k too, of a refusal by where its place is, and each scene. */
 static long total[DO_KINDS], answered[DO_KINDS][REASONS][STAGES], settled[STAGES], placed[DO_KINDS][REASONS][PLACES],
             shown[SCENES][DO_KINDS];
+
+/* How often 12 and 14 were of the gauges and not of the file, and a gauge got each of the eight places. */
+enum { GAUGES = 8 };
+static long of_gauges[DO_KINDS][2], got[GAUGES + 1];
 
 /* How often a flux and an acceleration were refused in one level while an older one has a fault at a lower place. */
 static long older_lower[2];
@@ -82,6 +89,13 @@ static bool lower_in_older(const struct record *r, unsigned number, unsigned pla
     return false;
 }
 
+static bool is_of_gauges(const struct record *r, unsigned number)
+{
+    if (r->kind < DO_PLACE || (number != PATHPETAL_LENGTH && number != PATHPETAL_OFFSETS))
+        return false;
+    return r->kind == DO_READ || by_second_check(r->string[FILE_STRING].at, r->string[FILE_STRING].len) == 0;
+}
+
 /* Counts an answer; 0 if it is none that a call can give. */
 static bool counted(const struct record *r, uint64_t answer)
 {
@@ -90,6 +104,8 @@ static bool counted(const struct record *r, uint64_t answer)
     if (r->kind >= DO_KINDS || r->scene >= SCENES || number >= REASONS || stage >= STAGES)
         return false;
     if (r->kind == DO_STEP && number == 0 && (count < 1 || count > 10))
+        return false;
+    if (r->kind >= DO_PLACE && (r->kind == DO_PLACE && number == 0 ? count < 1 || count > GAUGES : count != 0))
         return false;
     if (has_place(number) ? place < 1 || place > last_place(r, number) : place != 0)
         return false;
@@ -102,6 +118,10 @@ static bool counted(const struct record *r, uint64_t answer)
     shown[r->scene][r->kind]++;
     if (r->kind == DO_STEP && number == 0)
         settled[count]++;
+    if (r->kind == DO_PLACE && number == 0)
+        got[count]++;
+    if (is_of_gauges(r, number))
+        of_gauges[r->kind][number == PATHPETAL_OFFSETS]++;
     return true;
 }
 
@@ -114,6 +134,9 @@ static bool due(unsigned kind, unsigned number, unsigned stage)
     case DO_MAKE: return stage == 0 && (number == 0 || made || number == 7 || number == 9 || number == 15);
     case DO_CHECK: return stage == 0 && (number == 0 || input);
     case DO_FILTER: return stage == 0 && (number == 0 || input || number == 11 || (number >= 7 && number <= 9));
+    case DO_PLACE: return stage == 0 && (number == 0 || input || number == 20 || number == 21);
+    case DO_FEED: return stage == 0 && (number == 0 || input || number == 21 || number == 30);
+    case DO_READ: return stage == 0 && (number == 0 || number == 12 || number == 14 || number == 15);
     case DO_RUN: input |= number == 0 || number == 16; break;
     default: input |= number == 0 || number == 11 || number == 37; break;
     }
@@ -126,10 +149,11 @@ static bool due(unsigned kind, unsigned number, unsigned stage)
     return number == 4 || number == 7 || number == 8 || (number == 9 && stage <= 2);
 }
 
-static long missing(bool say)
+/* How much of what is known to occur did not, in the calls of the first kinds. */
+static long missing(bool say, unsigned kinds)
 {
     long n = 0;
-    for (unsigned kind = 0; kind < DO_KINDS; kind++) {
+    for (unsigned kind = 0; kind < kinds; kind++) {
         if (total[kind] < EACH) {
             n++;
             if (say)
@@ -149,7 +173,19 @@ static long missing(bool say)
                     if (say)
                         printf("%s never answered %u with %s\n", names[kind], number, places[i]);
                 }
+        for (unsigned i = 0; i < 2 && kind >= DO_PLACE; i++)
+            if (of_gauges[kind][i] < 100) {
+                n++;
+                if (say)
+                    printf("%s seldom answered %d for its gauges\n", names[kind], i ? 14 : 12);
+            }
     }
+    for (int i = 1; i <= GAUGES && kinds == DO_KINDS; i++)
+        if (!got[i]) {
+            n++;
+            if (say)
+                printf("no gauge was placed as number %d\n", i);
+        }
     for (unsigned i = 0; i < 2; i++)
         if (older_lower[i] < 50) {
             n++;
@@ -181,7 +217,16 @@ static uint64_t by_second(struct record *c)
     case DO_STEP: return by_second_step(f->at, f->len, a->at, a->len);
     case DO_FILTER: return by_second_filter(f->at, f->len);
     case DO_CHECK: return by_second_check(f->at, f->len);
-    default: return by_second_run(f->at, f->len, n[0]);
+    case DO_RUN: return by_second_run(f->at, f->len, n[0]);
+    case DO_PLACE: return by_second_place_gauge(f->at, f->len, a->at, a->len, n[0]);
+    case DO_FEED: return by_second_feed_gauges(f->at, f->len, a->at, a->len);
+    default: {
+        static int64_t readings[LONGEST / 8];
+        memcpy(readings, b->at, b->len);
+        uint64_t answer = by_second_read_gauges(a->at, a->len, readings, b->len / 8);
+        memcpy(b->at, readings, b->len);
+        return answer;
+    }
     }
 }
 
@@ -189,7 +234,9 @@ static uint64_t by_second(struct record *c)
 static bool share_left(uint64_t answer)
 {
     unsigned number = pathpetal_number(answer), stage = pathpetal_stage(answer);
-    long share = number == 0 || number == PATHPETAL_MORE ? 2600 : stage == 0 ? 300 : 80;
+    long share = number == 0 || number == PATHPETAL_MORE ? 2600 : r.kind == DO_READ ? 900 : stage == 0 ? 300 : 80;
+    if (is_of_gauges(&r, number) && of_gauges[r.kind][number == PATHPETAL_OFFSETS] < share)
+        return true;
     if (r.scene <= FAULTS && shown[r.scene][r.kind] < 400)
         return true;
     if (has_place(number) && placed[r.kind][number][where(&r, number, pathpetal_place(answer))] < 40)
@@ -199,7 +246,7 @@ static bool share_left(uint64_t answer)
     return answered[r.kind][number][stage] < share;
 }
 
-/* The second program does the call at hand; r.string[FILE_STRING] is then what it left. */
+/* The second program does the call at hand; the string that it may change is then what it left. */
 static uint64_t offer(unsigned kind)
 {
     static struct record before;
@@ -425,6 +472,24 @@ static void faulty(struct call *c)
     }
 }
 
+/* Some faults of the file at hand around its rows. */
+static void faults_around(void)
+{
+    struct string *f = &r.string[FILE_STRING];
+    if (one_in(5)) {
+        int64_t offset = between(0, 1000);
+        put_value(f->at + 24 + 4 * (size_t)between(0, 5), offset, 4);
+    }
+    if (one_in(5))
+        f->len += (size_t)PICK(1, 64, -1, -64);
+    if (one_in(12))
+        put_value(f->at + 4, PICK(0, 7, 257, UINT32_MAX), 4);
+    if (one_in(12))
+        put_value(f->at, PICK(0, 2, 257), 4);
+    if (one_in(20))
+        f->len = (size_t)between(0, 48);
+}
+
 /* Calls with several faults: of the channel, of the file around it, of the room for it. */
 static void with_faults(struct call *c)
 {
@@ -450,18 +515,7 @@ static void with_faults(struct call *c)
             p->len += (size_t)PICK(4, -4, 1);
     }
     r.number[0] = kind == DO_RUN ? most() : 0;
-    if (one_in(5)) {
-        int64_t offset = between(0, 1000);
-        put_value(f->at + 24 + 4 * (size_t)between(0, 5), offset, 4);
-    }
-    if (one_in(5))
-        f->len += (size_t)PICK(1, 64, -1, -64);
-    if (one_in(12))
-        put_value(f->at + 4, PICK(0, 7, 257, UINT32_MAX), 4);
-    if (one_in(12))
-        put_value(f->at, PICK(0, 2, 257), 4);
-    if (one_in(20))
-        f->len = (size_t)between(0, 48);
+    faults_around();
     offer(kind);
 }
 
@@ -490,20 +544,166 @@ static void one_scene(struct call *c)
     }
 }
 
+/* ---- gauges ---- */
+
+enum { CELL, FED, LAST, CROSSINGS, HIGHEST, LOWEST, LARGEST, SUM, GAUGE };
+enum { RECORD = 1000000, LEAST = -19999000, MOST = 20000000, WAVE = MOST - LEAST };
+
+/* A channel in which any height may stand in any cell. */
+static void deep_channel(struct call *c)
+{
+    size_t N = one_in(60) ? (size_t)between(13, 256) : (size_t)between(8, 12);
+    lengths(c, N);
+    memset(c->row, 0, sizeof c->row);
+    c->X = 5000, c->T = (uint64_t)between(1, 100), c->wanted = 9, c->accepted = (uint64_t)between(0, 9);
+    for (size_t j = 0; j < N; j++)
+        c->row[ROW_h][j] = 20000;
+}
+
+static void any_heights(struct call *c)
+{
+    for (size_t j = 0; j < c->N; j++) {
+        bool far = one_in(2);
+        c->row[ROW_e][j] = far ? between(LEAST, MOST) : between(-2, 2);
+    }
+}
+
+/* A gauge within its bounds, whether a record gives it or not. */
+static void any_gauge(int64_t *g, const struct call *c)
+{
+    g[CELL] = one_in(30) ? between(1, 256) : between(1, (int64_t)c->N);
+    g[FED] = one_in(20) ? RECORD - PICK(0, 0, 1) : one_in(2) ? between(0, 9) : between(0, RECORD - 1);
+    g[LAST] = g[FED] == 0 ? 0 : one_in(2) ? between(-2, 2) : between(LEAST, MOST);
+    g[CROSSINGS] = between(0, (g[FED] - (g[LAST] < 0)) / 2);
+    g[HIGHEST] = one_in(2) ? between(-2, 2) : between(LEAST, MOST);
+    g[LOWEST] = between(LEAST, g[HIGHEST]);
+    int64_t most = g[CROSSINGS] > 0 ? WAVE * (g[CROSSINGS] - 1) : 0;
+    g[SUM] = one_in(3) ? most : between(0, most);
+    g[LARGEST] = between(0, g[SUM] < WAVE ? g[SUM] : WAVE);
+}
+
+static void put_gauge(uint8_t *gauges, size_t place, const int64_t *g)
+{
+    for (size_t i = 0; i < GAUGE; i++)
+        put_value(gauges + 8 * (GAUGE * place + i), g[i], 8);
+}
+
+/* Gauges in some of the places, or in all. */
+static void any_gauges(struct string *to, const struct call *c)
+{
+    int64_t share = PICK(2, 4, 9, 100);
+    to->len = PATHPETAL_GAUGES_LENGTH;
+    memset(to->at, 0, 2 * PATHPETAL_GAUGES_LENGTH);
+    for (size_t i = 0; i < GAUGES; i++) {
+        int64_t g[GAUGE];
+        any_gauge(g, c);
+        if (share == 100 || !one_in((uint64_t)share))
+            put_gauge(to->at, i, g);
+    }
+}
+
+/* One number of a gauge at an end of its range as the others leave it, just outside, or far away. */
+static void at_an_end(struct string *to, const struct call *c)
+{
+    int64_t g[GAUGE];
+    any_gauge(g, c);
+    int64_t below = g[LAST] < 0, waves = g[CROSSINGS] > 0 ? g[CROSSINGS] - 1 : 0;
+    const int64_t low[GAUGE] = {1, 2 * g[CROSSINGS] + below, LEAST, 0, g[LOWEST], LEAST, 0, g[LARGEST]};
+    const int64_t high[GAUGE] = {256, RECORD, MOST, (g[FED] - below) / 2, MOST, g[HIGHEST], g[SUM] < WAVE ? g[SUM] : WAVE,
+                                 WAVE * waves};
+    size_t i = (size_t)(draw() % GAUGE), place = (size_t)(draw() % GAUGES);
+    int64_t far = PICK(INT64_MIN, INT64_MAX, INT64_MAX / 2 + 1, INT64_MAX / 2 + 2, INT64_C(1) << 32, -1, 0);
+    int64_t end = one_in(2) ? low[i] - PICK(0, 1) : high[i] + PICK(0, 1);
+    g[i] = one_in(4) ? far : end;
+    put_gauge(to->at, place, g);
+}
+
+/* The gauges at hand are read, with room for the readings or for another number of them. */
+static void offer_read(const struct string *gauges)
+{
+    struct string *readings = &r.string[READINGS_STRING];
+    unsigned scene = r.scene;
+    clear();
+    r.scene = scene;
+    r.string[GAUGES_STRING] = *gauges;
+    readings->len = 8 * (size_t)(one_in(5) ? PICK(0, 1, 47, 49, 96) : PATHPETAL_READINGS);
+    for (size_t i = 0; i < readings->len; i++)
+        readings->at[i] = (uint8_t)draw();
+    offer(DO_READ);
+}
+
+/* A file and gauges to one of the calls; gauges is then what the call left. */
+static void offer_gauges(const struct call *c, struct string *gauges, unsigned kind)
+{
+    if (kind == DO_READ) {
+        offer_read(gauges);
+        return;
+    }
+    r.string[GAUGES_STRING] = *gauges;
+    r.number[0] = kind == DO_FEED ? 0 : one_in(8) ? (uint64_t)PICK(0, (int64_t)c->N + 1, 257, -1, (INT64_C(1) << 32) + 1)
+                                                  : (uint64_t)between(1, (int64_t)c->N);
+    offer(kind);
+    *gauges = r.string[GAUGES_STRING];
+}
+
+static void gauge_scene(struct call *c)
+{
+    static struct string gauges;
+    unsigned kind = (unsigned)PICK(DO_PLACE, DO_FEED, DO_READ);
+    switch (draw() % 4) {
+    case 0:
+        deep_channel(c);
+        memset(gauges.at, 0, gauges.len = PATHPETAL_GAUGES_LENGTH);
+        for (int i = 0; i < 12; i++) {
+            any_heights(c);
+            as_file(c);
+            r.scene = WATCHED;
+            kind = (unsigned)PICK(DO_PLACE, DO_FEED, DO_FEED, DO_FEED, DO_READ);
+            offer_gauges(c, &gauges, kind);
+        }
+        break;
+    case 1:
+        deep_channel(c);
+        any_heights(c);
+        as_file(c);
+        r.scene = ENDS;
+        any_gauges(&gauges, c);
+        if (!one_in(3))
+            at_an_end(&gauges, c);
+        offer_gauges(c, &gauges, kind);
+        break;
+    default:
+        faulty(c);
+        as_file(c);
+        r.scene = GAUGE_FAULTS;
+        any_gauges(&gauges, c);
+        if (one_in(2))
+            at_an_end(&gauges, c);
+        if (one_in(4))
+            gauges.len = (size_t)PICK(0, 64, 511, 513, 1024);
+        if (one_in(2))
+            faults_around();
+        offer_gauges(c, &gauges, kind);
+        break;
+    }
+}
+
 static int write_calls(const char *to)
 {
     static struct call c;
     out = opened(to, "wb");
     for (size_t i = 0; i < sizeof c.row / sizeof(int64_t); i++)
         ((int64_t *)c.row)[i] = (int64_t)draw();
-    while (missing(false) && drawn < MOST_DRAWN)
+    while (missing(false, DO_PLACE) && drawn < MOST_DRAWN)
         one_scene(&c);
+    while (missing(false, DO_KINDS) && drawn < MOST_DRAWN)
+        gauge_scene(&c);
     if (fclose(out)) {
         perror(to);
         return 2;
     }
     printf("%ld calls drawn\n", drawn);
-    return missing(true) != 0;
+    return missing(true, DO_KINDS) != 0;
 }
 
 static int table(const char *calls, const char *answers)
@@ -553,6 +753,13 @@ static int table(const char *calls, const char *answers)
             printf("%2u: %ld %ld %ld\n", number, of[AT_FIRST], of[BETWEEN], of[AT_LAST]);
     }
     printf("35 and 36 before a lower place in an older level: %ld %ld\n", older_lower[0], older_lower[1]);
+    printf("12 and 14 of the gauges and not of the file:");
+    for (unsigned kind = DO_PLACE; kind < DO_KINDS; kind++)
+        printf(" %s %ld %ld", names[kind], of_gauges[kind][0], of_gauges[kind][1]);
+    printf("\ngauges placed as number 1 to 8:");
+    for (int i = 1; i <= GAUGES; i++)
+        printf(" %ld", got[i]);
+    printf("\n");
     for (unsigned i = 0; i < SCENES; i++) {
         printf("%s:", scenes[i]);
         for (unsigned kind = 0; kind < DO_KINDS; kind++)
@@ -562,7 +769,7 @@ static int table(const char *calls, const char *answers)
     }
     if (stray)
         printf("%ld calls answered what none can, or touched a byte that is not theirs\n", stray);
-    return missing(true) || stray;
+    return missing(true, DO_KINDS) || stray;
 }
 
 /* The calls that some of the others answer differently; at most five of them are told. */
@@ -579,7 +786,7 @@ static int differ(const char *calls, const char *answers, char **others, int n)
         get_reply(one, &a);
         for (int i = 0; i < n; i++) {
             get_reply(other[i], &b);
-            bool bytes = a.file.len == b.file.len && !memcmp(a.file.at, b.file.at, a.file.len);
+            bool bytes = a.left.len == b.left.len && !memcmp(a.left.at, b.left.at, a.left.len);
             if (a.answer == b.answer && a.kept == b.kept && bytes)
                 continue;
             same = false;

@@ -4,7 +4,7 @@ import assert from 'node:assert/strict';
 import { readFileSync } from 'node:fs';
 import { createServer } from 'node:http';
 import { pathToFileURL } from 'node:url';
-import { fileLength, load, Pathpetal, reasons, Refusal, row } from '../../include/pathpetal.mjs';
+import { fileLength, GAUGES_LENGTH, load, Pathpetal, reasons, Refusal, row } from '../../include/pathpetal.mjs';
 
 const [wasm, header] = process.argv.slice(2);
 const bytes = readFileSync(wasm);
@@ -21,6 +21,7 @@ async function test(what, body) {
     }
 }
 
+const names = ['make', 'check', 'step', 'filter', 'run', 'place_gauge', 'feed_gauges', 'read_gauges'].map((name) => `pathpetal_${name}`);
 const still = (cells, value) => row(Array(cells).fill(value));
 const start = (cells = 8) => ({
     cells, widthMm: 500, stepMs: 20, wanted: 5,
@@ -30,10 +31,9 @@ const refused = (number, stage, place = 0) => (error) =>
     error instanceof Refusal && error instanceof Error && error.name === 'Refusal' && error.number === number && error.stage === stage &&
     error.place === place && error.count === 0 && error.words === reasons[number] && error.message.includes(error.words);
 
-await test('the file exports the five calls and its memory, and needs nothing', async () => {
+await test('the file exports the eight calls and its memory, and needs nothing', async () => {
     const module = await WebAssembly.compile(bytes);
-    assert.deepEqual(WebAssembly.Module.exports(module).map((e) => e.name).sort(),
-        ['memory', ...['make', 'check', 'step', 'filter', 'run'].map((name) => `pathpetal_${name}`)].sort());
+    assert.deepEqual(WebAssembly.Module.exports(module).map((e) => e.name).sort(), ['memory', ...names].sort());
     assert.deepEqual(WebAssembly.Module.imports(module), []);
 });
 
@@ -44,7 +44,7 @@ await test('the words are those of pathpetal.h', () => {
     for (const [, number, comment] of list.matchAll(/= (\d+),?\s*\/\*(.*?)\*\//gs))
         words[number] = comment.replace(/\s+/g, ' ').trim();
     assert.deepEqual({ ...reasons }, words);
-    assert.deepEqual(Object.keys(reasons).map(Number), [0, 1, 2, 4, 5, 6, 7, 8, 9, 10, 11, 12, 13, 14, 15, 16, 31, 32, 33, 34, 35, 36, 37]);
+    assert.deepEqual(Object.keys(reasons).map(Number), [0, 1, 2, 4, 5, 6, 7, 8, 9, 10, 11, 12, 13, 14, 15, 16, 20, 21, 30, 31, 32, 33, 34, 35, 36, 37]);
     assert.ok(Object.isFrozen(reasons));
 });
 
@@ -52,7 +52,7 @@ await test('the parts of an answer come back, and a message names the cell or th
     let answer = 0n;
     const call = () => BigInt.asIntN(64, answer); // as WebAssembly gives it
     const answering = new Pathpetal({
-        exports: { memory: new WebAssembly.Memory({ initial: 1 }), ...Object.fromEntries(['make', 'check', 'step', 'filter', 'run'].map((name) => [`pathpetal_${name}`, call])) },
+        exports: { memory: new WebAssembly.Memory({ initial: 1 }), ...Object.fromEntries(names.map((name) => [name, call])) },
     });
     const packed = (number, stage, place, count) => BigInt(count) * 33554432n + BigInt(place * 65536 + number * 256 + stage);
     const file = new Uint8Array(0);
@@ -71,11 +71,27 @@ await test('the parts of an answer come back, and a message names the cell or th
         [4, 2, 3, 'refused 4 in cell 3 at correction 2: a cell has less than 1 mm of water: it fell dry, or nearly so'],
         [7, 10, 0, 'refused 7 at correction 10: the water became faster than 20 m/s'],
         [13, 0, 0, 'refused 13: not a channel file of edition 1'],
+        [20, 0, 0, 'refused 20: eight gauges are placed already'],
+        [21, 0, 0, "refused 21: a gauge's cell is not in the channel"],
+        [30, 0, 0, 'refused 30: a gauge holds 1,000,000 heights already'],
     ]) {
         answer = packed(number, stage, place, 0);
         assert.throws(() => answering.check(file), refused(number, stage, place));
         assert.throws(() => answering.step(file, file), { message, place });
+        for (const gauge of [() => answering.placeGauge(file, file, 1), () => answering.feedGauges(file, file), () => answering.readGauges(file)])
+            assert.throws(gauge, { message, place });
     }
+    for (const place of [1, 8]) {
+        answer = packed(0, 0, 0, place);
+        assert.equal(answering.placeGauge(file, file, 1), place);
+    }
+});
+
+await test('a file that lacks a call is not that of Pathpetal', () => {
+    const exports = { memory: new WebAssembly.Memory({ initial: 1 }), ...Object.fromEntries(names.map((name) => [name, () => 0n])) };
+    assert.ok(new Pathpetal({ exports }));
+    for (const name of Object.keys(exports))
+        assert.throws(() => new Pathpetal({ exports: { ...exports, [name]: undefined } }), TypeError);
 });
 
 await test('load takes bytes, a buffer, a URL, its text, a response and the promise of one', async () => {
@@ -152,6 +168,92 @@ await test('what is refused for a value names its cell or face', () => {
     assert.deepEqual(pathpetal.run(dry), { complete: false, number: 4, stage: 0, place: 3, count: 0, words: reasons[4] });
 });
 
+// a file of start() whose cell has a height, and gauges fed one height after another at a cell
+const height = (file, cell, um) => new DataView(file.buffer, file.byteOffset).setInt32(48 + 4 * 8 + 4 * (cell - 1), um, true);
+const feed = (file, gauges, cell, heights) => {
+    for (const um of heights) {
+        height(file, cell, um);
+        pathpetal.feedGauges(file, gauges);
+    }
+};
+
+await test('gauges are placed, fed and read', () => {
+    const file = pathpetal.make(start()), gauges = new Uint8Array(GAUGES_LENGTH);
+    assert.equal(GAUGES_LENGTH, 512);
+    assert.deepEqual(pathpetal.readGauges(gauges), []);
+    assert.equal(pathpetal.feedGauges(file, gauges), undefined);
+    assert.deepEqual(gauges, new Uint8Array(512));
+    assert.equal(pathpetal.placeGauge(file, gauges, 3), 1);
+    assert.deepEqual(pathpetal.readGauges(gauges), [{ place: 1, cell: 3, fed: 0, crossings: 0, waves: 0, largestUm: 0, sumUm: 0 }]);
+    feed(file, gauges, 3, [-1, 0, 5, -3]);
+    assert.equal(pathpetal.placeGauge(file, gauges, 3n), 2);
+    feed(file, gauges, 3, [-1, 2, 7, -2, 0, 3]);
+    assert.equal(pathpetal.placeGauge(file, gauges, 8), 3);
+    assert.deepEqual(pathpetal.readGauges(gauges), [
+        { place: 1, cell: 3, fed: 10, crossings: 3, waves: 2, largestUm: 9, sumUm: 17 },
+        { place: 2, cell: 3, fed: 6, crossings: 2, waves: 1, largestUm: 9, sumUm: 9 },
+        { place: 3, cell: 8, fed: 0, crossings: 0, waves: 0, largestUm: 0, sumUm: 0 },
+    ]);
+    gauges.fill(0, 64, 128);
+    assert.deepEqual(pathpetal.readGauges(gauges).map(({ place, cell }) => [place, cell]), [[1, 3], [3, 8]]);
+    assert.equal(pathpetal.placeGauge(file, gauges, 1), 2);
+});
+
+await test('gauges beside a run, as the page of the module says', () => {
+    const file = pathpetal.make(start()), gauges = new Uint8Array(GAUGES_LENGTH);
+    pathpetal.placeGauge(file, gauges, 3);
+    while (pathpetal.run(file, 1).count === 1)
+        pathpetal.feedGauges(file, gauges);
+    assert.equal(pathpetal.read(file).complete, true);
+    assert.equal(pathpetal.readGauges(gauges)[0].fed, 5);
+    const before = file.slice();
+    pathpetal.feedGauges(file, gauges);
+    assert.deepEqual(file, before);
+    assert.equal(pathpetal.readGauges(gauges)[0].fed, 6);
+});
+
+await test('the largest sum of a gauge is read exactly', () => {
+    const gauges = new Uint8Array(GAUGES_LENGTH), view = new DataView(gauges.buffer);
+    [256, 1_000_000, 20_000_000, 500_000, 20_000_000, -19_999_000, 39_999_000, 19_999_460_001_000].forEach((n, i) => view.setBigInt64(448 + 8 * i, BigInt(n), true));
+    assert.deepEqual(pathpetal.readGauges(gauges),
+        [{ place: 8, cell: 256, fed: 1_000_000, crossings: 500_000, waves: 499_999, largestUm: 39_999_000, sumUm: 19_999_460_001_000 }]);
+});
+
+await test('what gauges are refused for, with every byte as it was', () => {
+    const file = pathpetal.make(start()), gauges = new Uint8Array(GAUGES_LENGTH);
+    const unchanged = (number, ...calls) => {
+        const was = [file.slice(), gauges.slice()];
+        for (const call of calls)
+            assert.throws(call, refused(number, 0));
+        assert.deepEqual([file, gauges], was);
+    };
+    for (const cell of [0, 9, 257, 2 ** 32 + 1, 2n ** 64n - 1n])
+        unchanged(21, () => pathpetal.placeGauge(file, gauges, cell));
+    for (const wrong of [new Uint8Array(0), new Uint8Array(511), new Uint8Array(513), new Uint8Array(3_000_000)])
+        unchanged(12, () => pathpetal.placeGauge(file, wrong, 1), () => pathpetal.feedGauges(file, wrong), () => pathpetal.readGauges(wrong));
+    for (let place = 1; place <= 8; place++)
+        assert.equal(pathpetal.placeGauge(file, gauges, place), place);
+    unchanged(20, () => pathpetal.placeGauge(file, gauges, 1), () => pathpetal.placeGauge(file, gauges, 9));
+    const numbers = new DataView(gauges.buffer);
+    numbers.setBigInt64(8, 1_000_000n, true);
+    unchanged(30, () => pathpetal.feedGauges(file, gauges));
+    numbers.setBigInt64(64 * 7, 9n, true);
+    unchanged(21, () => pathpetal.feedGauges(file, gauges));
+    numbers.setBigInt64(64 * 7, 257n, true);
+    unchanged(14, () => pathpetal.placeGauge(file, gauges, 1), () => pathpetal.feedGauges(file, gauges), () => pathpetal.readGauges(gauges));
+    file[16] = 200;
+    unchanged(2, () => pathpetal.placeGauge(file, gauges, 1), () => pathpetal.feedGauges(file, gauges));
+});
+
+await test('gauges of a view into a larger buffer', () => {
+    const whole = new Uint8Array(3 + GAUGES_LENGTH + 5).fill(7), gauges = whole.subarray(3, 3 + GAUGES_LENGTH).fill(0);
+    const file = pathpetal.make(start());
+    pathpetal.placeGauge(file, gauges, 3);
+    feed(file, gauges, 3, [-1, 4, -2, 3]);
+    assert.deepEqual(pathpetal.readGauges(gauges), [{ place: 1, cell: 3, fed: 4, crossings: 2, waves: 1, largestUm: 6, sumUm: 6 }]);
+    assert.deepEqual([...whole.subarray(0, 3), ...whole.subarray(3 + GAUGES_LENGTH)], Array(8).fill(7));
+});
+
 await test('bytes of a view into a larger buffer', () => {
     const whole = new Uint8Array(3 + fileLength(9) + 5).fill(7), file = whole.subarray(3, 3 + fileLength(9));
     assert.equal(pathpetal.make(start(9), file), file);
@@ -191,15 +293,18 @@ await test('counts of any size are refused by their number', () => {
 });
 
 await test('what C could not be given is an error of the language', () => {
-    const file = pathpetal.make(start());
+    const file = pathpetal.make(start()), gauges = new Uint8Array(GAUGES_LENGTH);
     for (const cells of [-1, 8.5, NaN, Infinity, '8', undefined, -1n, 2n ** 64n])
         assert.throws(() => pathpetal.make({ ...start(), cells }), RangeError);
     for (const most of [-1, 0.5, NaN, 2n ** 64n])
         assert.throws(() => pathpetal.run(file, most), RangeError);
     for (const no of [null, undefined, [1, 2], new Int32Array(134), file.buffer, 'file'])
         for (const call of [() => pathpetal.check(no), () => pathpetal.step(no, still(8, 0)), () => pathpetal.step(file, no), () => pathpetal.filter(no), () => pathpetal.run(no),
-            () => pathpetal.make({ ...start(), heights: no })])
+            () => pathpetal.make({ ...start(), heights: no }), () => pathpetal.placeGauge(no, gauges, 1), () => pathpetal.placeGauge(file, no, 1),
+            () => pathpetal.feedGauges(no, gauges), () => pathpetal.feedGauges(file, no), () => pathpetal.readGauges(no)])
             assert.throws(call, TypeError);
+    for (const cell of [-1, 0.5, NaN, '1', undefined, 2n ** 64n])
+        assert.throws(() => pathpetal.placeGauge(file, gauges, cell), RangeError);
     for (const value of [0.5, NaN, 2 ** 31, -(2 ** 31) - 1, '1'])
         assert.throws(() => row([0, value]), RangeError);
     assert.deepEqual([...row([-(2 ** 31), 2 ** 31 - 1, -1])], [0, 0, 0, 128, 255, 255, 255, 127, 255, 255, 255, 255]);

@@ -2,8 +2,10 @@
 
    A call: kind and scene (1 byte each), four numbers (8 bytes each), then four strings, each its length (4 bytes) and
    its bytes: the file and three rows. make takes all; step the file and the first row; run the file and the first
-   number; filter and check the file. An answer: the answer (8 bytes), the file's length (4 bytes) and bytes after the
-   call, and 1 if the rows and what lies around each string are as they were, else 0 (1 byte). Little-endian. */
+   number; filter and check the file. Gauges stand in the first row: placing one takes the file, them and the first
+   number, feeding the file and them, and reading them alone, with the numbers read, 8 bytes each, in the second row.
+   An answer: the answer (8 bytes), the length (4 bytes) and the bytes after the call of the one string that it may
+   change, and 1 if the others and what lies around each string are as they were, else 0 (1 byte). Little-endian. */
 #ifndef RECORD_H
 #define RECORD_H
 
@@ -12,9 +14,15 @@
 #include <stdio.h>
 #include <stdlib.h>
 
-enum { DO_MAKE, DO_STEP, DO_FILTER, DO_CHECK, DO_RUN, DO_KINDS };
+enum { DO_MAKE, DO_STEP, DO_FILTER, DO_CHECK, DO_RUN, DO_PLACE, DO_FEED, DO_READ, DO_KINDS };
 enum { NUMBERS = 4, STRINGS = 4, LONGEST = 20000 };
-enum { FILE_STRING, FIRST_ROW, SECOND_ROW, THIRD_ROW };
+enum { FILE_STRING, FIRST_ROW, SECOND_ROW, THIRD_ROW, GAUGES_STRING = FIRST_ROW, READINGS_STRING = SECOND_ROW };
+
+/* The string that a call may change. */
+static inline int changed_by(unsigned kind)
+{
+    return kind == DO_PLACE || kind == DO_FEED ? GAUGES_STRING : kind == DO_READ ? READINGS_STRING : FILE_STRING;
+}
 
 struct string {
     size_t len;
@@ -29,7 +37,7 @@ struct record {
 
 struct reply {
     uint64_t answer;
-    struct string file;
+    struct string left;
     bool kept;
 };
 
@@ -107,14 +115,14 @@ static inline void get_record(FILE *from, struct record *r)
 static inline void put_reply(FILE *to, const struct reply *r)
 {
     put_number(to, r->answer, 8);
-    put_string(to, &r->file);
+    put_string(to, &r->left);
     put_number(to, r->kept, 1);
 }
 
 static inline void get_reply(FILE *from, struct reply *r)
 {
     r->answer = get_number(from, 8);
-    get_string(from, &r->file);
+    get_string(from, &r->left);
     r->kept = get_number(from, 1) != 0;
 }
 

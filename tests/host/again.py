@@ -87,8 +87,8 @@ def open_records(done, begin, end, record):
         forget("n.csv.open")
     # the record is finished where END stands and it alone is not
     restore(done)
-    rows = record[:record.rindex(b"#")]
-    for left in (rows, record, record[:-7], rows + b"305,12.200,1,2,3\n"):
+    rows = up_to(record, 300)
+    for left in (rows, record, record[:-7], rows + b"305,12.200,1,2,3\n", record[:record.rindex(b"#")]):
         forget("n.csv")
         write("n.csv.open", left)
         go(*COMMAND, tells="n.end: complete: all 300 steps accepted\n", says="n.end: is of this run")

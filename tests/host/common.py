@@ -1,7 +1,7 @@
 """What all tests of the host have in common: what is tested, facts that are counted, files, and runs of the host."""
 import os, re, shutil, subprocess, time
 
-from formats import counts
+from formats import count_lines, counts, gauge_lines
 
 TOP = os.path.dirname(os.path.dirname(os.path.dirname(os.path.abspath(__file__))))  # the repository
 DONE, USAGE, REFUSED, UNWRITTEN, OPEN, INTERRUPTED = 0, 2, 3, 4, 5, 6  # the host's exit statuses
@@ -14,6 +14,7 @@ ENVIRONMENT = dict(os.environ, LC_ALL="C",
 ROWS = [(900 + 13 * (j * 7 % 17), 40000 if j in (9, 10, 11) else 0, 1000 * (j % 3)) for j in range(30)]
 COUNTS = ("--width-mm", 1000, "--step-ms", 40, "--steps", 300)
 POUR = [(step, 1 + step % 30, 300 - 7 * (step % 90)) for step in range(3, 290, 4)] + [(150, 2, 500), (150, 30, -500)]
+STAFFS = (3, 30, 1)
 OPTIONS = ("--filter-every", 7, "--pour", "pour.csv", "--staff", "3,30,1", "--every", 5)
 
 
@@ -28,6 +29,7 @@ class Tested:
         self.groups = []  # [name, passed, failed, when it began]
         self.notes = []  # lines to be printed at the end
         self.running = []  # processes that were started and may not have ended
+        self.fed = []  # of the run that most tests look at: the heights after every step, for each staff
 
 
 tested = Tested()
@@ -62,6 +64,22 @@ def report():
     print(f"{now - tested.groups[0][3]:.0f} s")
     print(f"{tested.passed} passed, {tested.failed} failed")
     return 0 if tested.failed == 0 and tested.passed > 0 else 1
+
+
+# The gauges of the run that most tests look at ------------------------------------------------------------------------
+
+def known(channel, record):
+    """A channel of that run and the rows that it has behind it, as `beside` takes them, with its gauges."""
+    return channel, record, gauge_lines(STAFFS, fed_up_to(counts(channel)[1]))
+
+
+def fed_up_to(step):
+    return [heights[:step] for heights in tested.fed]
+
+
+def counted(step, placed=0):
+    """What the record of that run says of its gauges, when it has come to a step."""
+    return count_lines(STAFFS, [heights[placed:step] for heights in tested.fed], placed)
 
 
 # Files ----------------------------------------------------------------------------------------------------------------

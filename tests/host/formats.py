@@ -54,9 +54,10 @@ def whole_record(record, words):
 
 
 def lines_of(record):
-    """A record's head, its rows and its last line."""
+    """A record's head, its rows, and what follows them: what its gauges counted, and its last line."""
     lines = record.decode().splitlines(True)
-    return "".join(lines[:5]), lines[5:-1], lines[-1]
+    rows = [line for line in lines if line[0].isdigit()]
+    return "".join(lines[:5]), rows, "".join(lines[5 + len(rows):])
 
 
 def up_to(record, step):
@@ -66,19 +67,78 @@ def up_to(record, step):
         if line in lines[:5] or line[:1].isdigit() and int(line.split(b",")[0]) <= step)
 
 
+class Gauge:
+    """A gauge that was fed these heights, one after each step that follows `placed`, by the rule of its own: a crossing
+    is a height of zero or more directly after one below; a wave runs from a crossing up to, not including, the next."""
+
+    def __init__(self, heights, placed=0):
+        crossings = [k for k in range(1, len(heights)) if heights[k - 1] < 0 <= heights[k]]
+        waves = [heights[a:b] for a, b in zip(crossings, crossings[1:])]
+        sizes = [max(wave) - min(wave) for wave in waves]
+        since = heights[crossings[-1]:] if crossings else [0]
+        self.fed, self.waves, self.placed = len(heights), len(waves), placed
+        self.largest, self.sum = max(sizes, default=0), sum(sizes)
+        step = lambda k: placed + 1 + k
+        first = sizes.index(self.largest) if sizes else None
+        self.noted = (step(crossings[first]), step(crossings[first + 1])) if sizes else (0, 0)
+        self.state = (self.fed, heights[-1] if heights else 0, len(crossings), max(since), min(since), self.largest,
+            self.sum)
+        self.crossed = step(crossings[-1]) if crossings else 0
+
+
+def every_height(record):
+    """For each staff the heights in a record with a row for every step, without that of the channel it begins with."""
+    rows = [list(map(int, line.decode().replace(".", "").split(","))) for line in record_rows(record)]
+    assert [row[0] for row in rows] == list(range(rows[0][0], rows[-1][0] + 1))
+    return [list(column) for column in zip(*(row[2:] for row in rows[1:]))]
+
+
+def count_lines(cells, fed, placed=0):
+    """What a record says of the gauges at these cells, which were fed these heights."""
+    text = ""
+    for cell, heights in zip(cells, fed):
+        gauge = Gauge(heights, placed)
+        text += f"# cell {cell}: {gauge.fed} heights from step {placed + 1}, {gauge.waves} waves, largest " \
+            f"{gauge.largest} um, sum {gauge.sum} um"
+        text += f", noted from step {gauge.noted[0]} to step {gauge.noted[1]}\n" if gauge.waves else "\n"
+    return text.encode()
+
+
+def gauge_lines(cells, fed, placed=0):
+    """The same as it stands beside a channel."""
+    text = ""
+    for cell, heights in zip(cells, fed):
+        gauge = Gauge(heights, placed)
+        text += " ".join(map(str, ("gauge", cell, *gauge.state, "noted", gauge.crossed, *gauge.noted))) + "\n"
+    return text
+
+
+def wave_words(cells, fed, step_ms, placed=0):
+    """What show --staff tells of them."""
+    text = ""
+    for cell, heights in zip(cells, fed):
+        gauge = Gauge(heights, placed)
+        mean = (2 * gauge.sum + gauge.waves) // (2 * gauge.waves) if gauge.waves else 0
+        time = [f"{step * step_ms // 1000}.{step * step_ms % 1000:03}" for step in gauge.noted]
+        text += f"  cell {cell}: " + (f"{gauge.waves:,} wave{'s' * (gauge.waves > 1)}, mean {mean:,} um, largest "
+            f"{gauge.largest:,} um (from {time[0]} s to {time[1]} s)\n" if gauge.waves else "no complete wave\n")
+    return text
+
+
 def summed(text):
     """What stands beside a channel, with its last line: the sum of all lines before it."""
     return text + f"sum {sha(text.encode())}\n"
 
 
 def beside(run, *saved):
-    """What stands beside a channel; each of `saved` is a channel's bytes and those of the record that it has behind it,
-    or None."""
+    """What stands beside a channel; each of `saved` is a channel's bytes, those of the record that it has behind it, or
+    None, and the lines on its gauges, which an earlier program left out."""
     text = "pathpetal run 1\n" + run_lines(*run)
-    for channel, record in saved:
+    for channel, record, *gauges in saved:
         text += f"channel {sha(channel)} at step {counts(channel)[1]}\n"
         if record is not None:
             rows = len(record_rows(record))
             first = re.search(rb"^# every \d+ from step (\d+)$", record, re.M)[1].decode()
             text += f"record {sha(record)} of {len(record)} bytes: {rows} rows from step {first}\n"
+        text += "".join(gauges)
     return summed(text)

@@ -3,20 +3,27 @@ import os, random, re, signal, subprocess, time
 
 from common import (DONE, INTERRUPTED, check, end_is_true, forget, go, group, listing, parts_left, read, saved, start,
     taken, tested, write)
-from formats import counts, sha, survey, up_to, whole_record
+from formats import Gauge, count_lines, counts, every_height, lines_of, sha, survey, up_to, whole_record
 
 
 def long_channel():
     """A channel, its table of poured water and its options for a run of some tenths of a second."""
     draw = random.Random(3)
-    write("long.csv", survey([(1500 + draw.randrange(200), draw.randrange(30000)) for _ in range(48)],
+    write("long.csv", survey([(1500 + draw.randrange(200), draw.randrange(-15000, 15000)) for _ in range(48)],
         "depth_mm,height_um"))
     write("long.pour", "step,cell,amount_um\n" + "".join(
         f"{step},{draw.randrange(48) + 1},{draw.randrange(-200, 200)}\n" for step in range(1, 3000, 9)))
     go("make", "long.csv", "-o", "long.channel", "--width-mm", 1500, "--step-ms", 30, "--steps", 3000)
-    options = ("--filter-every", 40, "--pour", "long.pour", "--staff", "2,47", "--every", 10)
+    cells = (2, 47, 1, 48, 3, 9, 15, 20, 25, 30, 40)  # more than one group of gauges
+    options = ("--filter-every", 40, "--pour", "long.pour", "--staff", ",".join(map(str, cells)), "--every", 10)
     go("run", "long.channel", "-o", "long.end", *options, "--record", "long.record")
-    return options, read("long.channel"), read("long.end"), read("long.record")
+    record = read("long.record")
+    go("run", "long.channel", "-o", "each.end", *options[:-1], 1, "--record", "each.record")
+    fed = every_height(read("each.record"))
+    check(lines_of(record)[2].encode().startswith(count_lines(cells, fed)), "what its gauges counted")
+    check(min(Gauge(row).waves for row in fed) >= 10, "each of them counted waves")
+    forget(*saved("each.end"), "each.record")
+    return options, read("long.channel"), read("long.end"), record
 
 
 def end_while_it_waits(name, line, waits, begun, begin):

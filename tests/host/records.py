@@ -1,7 +1,8 @@
 """Records that are mixed from two runs, other options, and what stands beside a channel and is not of it."""
 import os, re, shutil
 
-from common import (COUNTS, OPEN, OPTIONS, POUR, REFUSED, ROWS, check, forget, go, group, listing, read, saved, write)
+from common import (COUNTS, OPEN, OPTIONS, POUR, REFUSED, ROWS, check, forget, go, group, known, listing, read, saved,
+    write)
 from formats import beside, counts, record_end, record_head, record_rows, summed, survey, up_to
 
 
@@ -135,14 +136,14 @@ def other_options(begin, end, record):
 
 def strange_beside(begin, end):
     group("what stands beside a channel and was not written by a run")
-    known = beside((begin, 7, POUR), (end, None))
-    for name, text in (("notes", "my own notes\n"), ("a changed sum", known[:-3] + "xx\n"),
-                       ("another step", known.replace("at step 300", "at step 299")), ("cut", known[:-9]),
-                       ("longer", known + "\n"), ("zeros", "\0" * 300), ("a megabyte", "x" * 1000000),
-                       ("an edition to come", known.replace("run 1", "run 2")),
-                       ("spaces", known.replace(" at", "  at"))):
+    text = beside((begin, 7, POUR), (end, None))
+    for name, other in (("notes", "my own notes\n"), ("a changed sum", text[:-3] + "xx\n"),
+                        ("another step", text.replace("at step 300", "at step 299")), ("cut", text[:-9]),
+                        ("longer", text + "\n"), ("zeros", "\0" * 300), ("a megabyte", "x" * 1000000),
+                        ("an edition to come", text.replace("run 1", "run 2")),
+                        ("spaces", text.replace(" at", "  at"))):
         for path in ("w.end.run", "w.check.run"):
-            write(path, text)
+            write(path, other)
             before = listing()
             words = ("run", "start.channel", "-o", "w.end", "--checkpoint", "w.check", "--checkpoint-every", 100)
             go(*words, status=REFUSED, name=f"{path}: {name}",
@@ -152,7 +153,7 @@ def strange_beside(begin, end):
             forget(*saved("w.end", "w.check"))
     # beside START it is taken for nothing known
     shutil.copy("start.channel", "s.channel")
-    write("s.channel.run", known[:-3] + "xx\n")
+    write("s.channel.run", text[:-3] + "xx\n")
     _, err = go("run", "s.channel", "-o", "w.end")
     check(err == "", "beside a new START nothing need stand")
     os.mkdir("v.end.run")
@@ -177,18 +178,18 @@ def untrue_beside(begin, end, record):
         "--checkpoint-every", 140)
     go(*words)
     check(counts(read("w.check"))[1] == 280 and read("w.csv") == record, "what is left of a run that is complete")
-    rows, half = record[:record.rindex(b"#")], read("w.check")
+    rows, half = up_to(record, 300), read("w.check")
     # END with its record; a checkpoint with the rows so far, as a killed run leaves them
     cases = (("w.end", end, rows, {"w.csv": record}), ("w.check", half, up_to(record, 280), {"w.csv.open": rows}))
     forget("w.csv", *saved("w.end", "w.check"))
     for path, channel, behind, with_it in cases:
         step = counts(channel)[1]
-        true = beside(run, (channel, behind))
+        true = beside(run, known(channel, behind))
         untrue = {f"step {other}": (channel, summed(true.rsplit("sum", 1)[0].replace(f"at step {step}\n",
             f"at step {other}\n"))) for other in (0, step - 5, step - 1, step + 1)}
         for what, data in (("cut", channel[:-1]), ("longer", channel + b"\0"), ("edition 2", b"\2" + channel[1:]),
                            ("a depth of 0", channel[:48] + bytes(4) + channel[52:])):
-            untrue[what] = (data, beside(run, (data, behind)))
+            untrue[what] = (data, beside(run, (data, *known(channel, behind)[1:])))
         for what, (data, says) in {**untrue, "nothing": (channel, true)}.items():
             for name, there in {path: data, path + ".run": says, **with_it}.items():
                 write(name, there)
@@ -203,5 +204,5 @@ def untrue_beside(begin, end, record):
                 _, err = go(*words, "--replace", name=f"{path}: {what}, with --replace")
                 check(f"{path}: is of this run" not in err, f"{path}: {what}: is not gone on with: {err!r}")
             check(read("w.end") == end and read("w.csv") == record, f"{path}: {what}: other bytes")
-            check(read("w.end.run").decode() == beside(run, (end, rows)), f"{path}: {what}: beside END")
+            check(read("w.end.run").decode() == beside(run, known(end, rows)), f"{path}: {what}: beside END")
             forget("w.csv", "w.csv.open", *saved("w.end", "w.check"))

@@ -1,18 +1,22 @@
 """Runs that are complete, runs that are cut at a checkpoint and gone on with, and steps that are refused."""
 import math, os, random
 
-from common import (COUNTS, OPEN, OPTIONS, POUR, REFUSED, ROWS, check, end_is_true, forget, go, group, listing,
-    parts_left, read, saved, tested, write)
-from formats import (beside, counts, heights, record_end, record_head, record_rows, summed, survey, up_to, whole_record)
+from common import (COUNTS, OPEN, OPTIONS, POUR, REFUSED, ROWS, STAFFS, check, counted, end_is_true, forget, go, group,
+    known, listing, parts_left, read, saved, tested, write)
+from formats import (beside, counts, every_height, heights, lines_of, record_end, record_head, record_rows, summed,
+    survey, up_to, whole_record)
 
 
 def prepare():
-    """START, its table of poured water, and what one run in one go makes of it."""
+    """START, its table of poured water, and what one run in one go makes of it; the heights after every step."""
     write("start.csv", survey(ROWS))
     write("pour.csv", "step,cell,amount_um\n" + "".join(f"{a},{b},{c}\n" for a, b, c in reversed(POUR)))
     go("make", "start.csv", "-o", "start.channel", *COUNTS)
     go("run", "start.channel", "-o", "one.channel", *OPTIONS, "--record", "one.csv",
         tells="one.channel: complete: all 300 steps accepted")
+    go("run", "start.channel", "-o", "each.channel", *OPTIONS[:-1], 1, "--record", "each.csv")
+    tested.fed = every_height(read("each.csv"))
+    forget(*saved("each.channel"), "each.csv")
     return read("start.channel"), read("one.channel"), read("one.csv")
 
 
@@ -25,9 +29,10 @@ def runs(begin, end, record):
     lines = record.decode().splitlines()
     check(record.startswith(record_head((3, 30, 1), (begin, 7, POUR), 5)), "the record's head")
     check(whole_record(record, "complete: 300 of 300 steps accepted"), "the record's last line")
-    check(read("one.channel.run").decode() == beside((begin, 7, POUR), (end, record[:record.rindex(b"#")])),
+    check(lines_of(record)[2].startswith(counted(300).decode()), "what its gauges counted")
+    check(read("one.channel.run").decode() == beside((begin, 7, POUR), known(end, up_to(record, 300))),
         "what stands beside END")
-    rows = [line.split(",") for line in lines[5:-1]]
+    rows = [line.split(",") for line in lines[5:-1 - len(STAFFS)]]
     check([row[0] for row in rows] == [str(k) for k in range(0, 301, 5)], "the record's steps")
     check([row[1] for row in rows] == [f"{k * 40 / 1000:.3f}" for k in range(0, 301, 5)], "the record's times")
     for row, data in ((rows[0], begin), (rows[-1], end)):
@@ -56,8 +61,8 @@ def runs(begin, end, record):
         "--checkpoint-every", 13)
     check(read("many.channel") == end and read("many.csv") == record, "checkpoints change nothing")
     check(counts(read("many.check")) == (30, 299, 300), "the last checkpoint on the way")
-    check(read("many.check.run").decode().startswith(beside((begin, 7, POUR), (read("many.check"), up_to(record, 299)))
-        .rsplit("sum", 1)[0]), "what stands beside the checkpoint")
+    text = beside((begin, 7, POUR), known(read("many.check"), up_to(record, 299)))
+    check(read("many.check.run").decode().startswith(text.rsplit("sum", 1)[0]), "what stands beside the checkpoint")
     forget(*(name for stem in ("plain", "far", "far2", "again", "many") for name in saved(stem + ".channel")),
         *saved("many.check"), "many.csv")
 
@@ -76,12 +81,13 @@ def cut_and_gone_on(begin, end, record):
         rows = read("cut.csv.open")
         check(whole_record(rows, f"open: {step} of 300 steps accepted"), "the open record says open")
         check(record_rows(rows) == record_rows(up_to(record, step)), "the rows so far")
+        check(lines_of(rows)[2].startswith(counted(step).decode()), "what its gauges counted")
         check(counts(read("cut.check")) == (30, step, 300), f"cut at step {step}")
         behind = up_to(record, step)
-        write("cut.check.run", beside(run, (read("cut.check"), behind)))
+        write("cut.check.run", beside(run, known(read("cut.check"), behind)))
         # the record as a killed run may leave it: with later rows, with a cut line, with a last line, as a whole one
         leaves = [behind, behind + b"30", behind + record_end(behind, f"open: {step} of 300 steps accepted"),
-                  record[:-30], record]
+                  behind + counted(step), behind + counted(step)[:-40], record[:-30], record]
         for k, left in enumerate(leaves):
             write("on.csv.open", left)
             go("run", "cut.check", "-o", "on.channel", *OPTIONS, "--record", "on.csv", name=f"on from {step}, {k}")
@@ -92,13 +98,13 @@ def cut_and_gone_on(begin, end, record):
         # the row of its own count lacks where it could not be written, and comes then
         if step % 5 == 0:
             less = up_to(record, step - 1)
-            write("cut.check.run", beside(run, (begin, None), (read("cut.check"), less)))
+            write("cut.check.run", beside(run, (begin, None), known(read("cut.check"), less)))
             write("on.csv.open", less + b"7")
             go("run", "cut.check", "-o", "on.channel", *OPTIONS, "--record", "on.csv")
             check(read("on.channel") == end and read("on.csv") == record, "the row that lacked")
             forget(*saved("on.channel"), "on.csv")
         # rows that are lost or changed are not gone on with
-        write("cut.check.run", beside(run, (read("cut.check"), behind)))
+        write("cut.check.run", beside(run, known(read("cut.check"), behind)))
         draw = random.Random(step)
         spoilt = [behind[:-1], behind[:-9] + b"\n", b"", behind.replace(b"# every 5 from step 0\n", b""),
                   record_head((3, 30, 1), run, 5),
@@ -124,7 +130,7 @@ def cut_and_gone_on(begin, end, record):
             check(listing() == before, "nothing is written")
         # nor where what stands beside START contradicts itself
         if step > 10:
-            text = beside(run, (read("cut.check"), behind)).rsplit("sum", 1)[0]
+            text = beside(run, known(read("cut.check"), behind)).rsplit("sum", 1)[0]
             rows = len(record_rows(behind))
             for changed in (text.replace(f" {rows} rows", f" {rows + 1} rows"),
                             text.replace(f" {rows} rows", " 9999999 rows"),
@@ -136,7 +142,7 @@ def cut_and_gone_on(begin, end, record):
         # nor rows that lack though nothing is changed
         if step > 10:
             less = up_to(record, (step - 1) // 5 * 5 - 5)
-            write("cut.check.run", beside(run, (read("cut.check"), less)))
+            write("cut.check.run", beside(run, known(read("cut.check"), less)))
             write("on.csv.open", less)
             go("run", "cut.check", "-o", "on.channel", *OPTIONS, "--record", "on.csv", status=REFUSED,
                 says="on.csv.open: its rows up to step .* some are lost")

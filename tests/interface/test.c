@@ -1,5 +1,6 @@
 /* The C interface of include/pathpetal.h beside the second program: for every call the same answer and the same bytes,
-   and no byte touched outside the strings that were lent.
+   and no byte touched outside the strings that were lent. Of the gauges here is what a C program sees; what they count
+   is compared in tests/gauges.
    usage: test    prints how often each answer occurred, and last 'N passed, M failed' */
 #define _DEFAULT_SOURCE
 #include "../../include/pathpetal.h"
@@ -1061,6 +1062,40 @@ static void nothing_lent(void)
            is(pathpetal_run(NULL, 0, 5), 12, 0, 0) && is(pathpetal_step(NULL, 0, NULL, 0), 12, 0, 0) &&
            is(pathpetal_step(NULL, 0, row, 32), 12, 0, 0), "no bytes are no file");
     expect(is(pathpetal_step(file, 536, NULL, 0), 1, 0, 0) && !memcmp(file, before, 536), "nothing is no poured row");
+    uint8_t gauges[PATHPETAL_GAUGES_LENGTH] = {0};
+    expect(is(pathpetal_place_gauge(NULL, 0, gauges, sizeof gauges, 1), 12, 0, 0) &&
+           is(pathpetal_feed_gauges(NULL, 0, NULL, 0), 12, 0, 0), "no bytes are no file to place or to feed gauges");
+    expect(is(pathpetal_place_gauge(file, 536, NULL, 0, 1), 12, 0, 0) &&
+           is(pathpetal_feed_gauges(file, 536, NULL, 0), 12, 0, 0) &&
+           is(pathpetal_read_gauges(NULL, 0, NULL, 0), 12, 0, 0), "no bytes are no gauges");
+    expect(is(pathpetal_read_gauges(gauges, sizeof gauges, NULL, 0), 15, 0, 0), "nothing is no room for readings");
+}
+
+/* A gauge beside a channel that is stepped: what it is fed is in the file, and no call of it changes the file. */
+static void gauges_beside(void)
+{
+    static struct call c;
+    static const int64_t due[12] = {3, 10, 3, 2, 9, 17, 3, 6, 2, 1, 9, 9};
+    static const int32_t fed[10] = {-1, 0, 5, -3, -1, 2, 7, -2, 0, 3};
+    uint8_t gauges[PATHPETAL_GAUGES_LENGTH] = {0}, *file = c.string[BYTES].at, before[536];
+    int64_t readings[PATHPETAL_READINGS];
+    expect(PATHPETAL_GAUGES_LENGTH == 512 && PATHPETAL_READINGS == 48, "the lengths of gauges and of readings");
+    expect(PATHPETAL_NINTH_GAUGE == 20 && PATHPETAL_OFF_CHANNEL == 21 && PATHPETAL_GAUGE_FULL == 30,
+           "the numbers of the gauges' own refusals");
+    even(&c, 8, 1000, 7, 10);
+    expect(is(compare(MAKE, &c), 0, 0, 0), "a channel for gauges");
+    for (size_t i = 0; i < 10; i++) {
+        if (i == 0 || i == 4)
+            expect(is(pathpetal_place_gauge(file, 536, gauges, 512, 3), 0, 0, i == 0 ? 1 : 2), "a gauge at cell 3");
+        set_entry(&c, 8, ROW_e, 2, fed[i]);
+        memcpy(before, file, 536);
+        expect(is(pathpetal_feed_gauges(file, 536, gauges, 512), 0, 0, 0) && !memcmp(file, before, 536),
+               "gauges are fed and the file stays");
+    }
+    expect(is(pathpetal_read_gauges(gauges, 512, readings, 48), 0, 0, 0) && !memcmp(readings, due, sizeof due),
+           "the worked example, and a gauge placed before its fifth height");
+    for (size_t i = 12; i < 48; i++)
+        expect(readings[i] == 0, "where there is no gauge all readings are 0");
 }
 
 /* Strings longer than 4 GiB, so that their lengths' last 32 bits alone would be right. */
@@ -1090,6 +1125,17 @@ static void long_strings(void)
            "make's rows 4 GiB too long");
     expect(is(pathpetal_make(8, 1000, 20, 10, row, 32, row, 32, row, 32, file, over + 536), 15, 0, 0) &&
            !memcmp(file, bytes, 536), "make into a buffer 4 GiB too long");
+    uint8_t gauges[PATHPETAL_GAUGES_LENGTH] = {0};
+    int64_t readings[PATHPETAL_READINGS];
+    expect(is(pathpetal_place_gauge(file, over + 536, gauges, 512, 1), 12, 0, 0) &&
+           is(pathpetal_feed_gauges(file, over + 536, gauges, 512), 12, 0, 0) && !memcmp(file, bytes, 536),
+           "gauges of a file 4 GiB too long");
+    memset(file, 0, 536);
+    expect(is(pathpetal_place_gauge(bytes, 536, file, over + 512, 1), 12, 0, 0) &&
+           is(pathpetal_feed_gauges(bytes, 536, file, over + 512), 12, 0, 0) &&
+           is(pathpetal_read_gauges(file, over + 512, readings, 48), 12, 0, 0), "gauges 4 GiB too long");
+    expect(is(pathpetal_place_gauge(bytes, 536, gauges, 512, (1ull << 32) + 1), 21, 0, 0) &&
+           is(pathpetal_place_gauge(bytes, 536, gauges, 512, 1ull << 63), 21, 0, 0), "a cell 2^32 too far");
     munmap(file, size);
 }
 
@@ -1198,6 +1244,7 @@ int main(void)
     many_damaged_files();
     makes();
     channels();
+    gauges_beside();
     table();
     printf("%ld passed, %ld failed\n", passed, failed);
     return failed != 0;

@@ -1,0 +1,9 @@
+pub mod Waves
+pub mod Gauge
+pub mod State
+pub mod Calls
+pub mod Example
+pub mod Record
+pub mod Small
+pub mod Laws
+pub mod Kept

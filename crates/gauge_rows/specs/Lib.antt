@@ -1,0 +1,4 @@
+pub mod Passes
+pub mod Stored
+pub mod Chunks
+pub mod Bounds

@@ -1,0 +1,481 @@
+"""What the gauges at the staffs counted: against every height of a run, through cuts, and in what is old or changed."""
+import os, random, re, shutil, signal
+import xml.etree.ElementTree as xml
+
+from common import (INTERRUPTED, OPEN, OPTIONS, POUR, REFUSED, STAFFS, check, counted, forget, go, group, grown, known,
+    listing, parts_left, read, saved, start, tested, until, write)
+from formats import (Gauge, beside, count_lines, counts, every_height, gauge_lines, heights, lines_of, record_end,
+    record_rows, survey, up_to, wave_words, whole_record)
+
+ALL = "complete: 300 of 300 steps accepted"
+BY = "  waves by the proved counts of {}; in brackets the time of the largest, noted by the host\n"
+NONE = "  no counts of waves: {}\n"
+EARLIER = NONE.format("an earlier program wrote this record")
+CUT = NONE.format("the run that writes them was cut, or still goes; give its command again")
+UNKNOWN = "nothing beside it says what {} had counted"
+NO_STAFFS = OPTIONS[:4]  # the same run without a record
+
+
+def gauges(begin, end, record):
+    from_the_files()
+    whatever_every(record)
+    many_staffs()
+    small_waves()
+    gone_on_with(begin, end, record)
+    begun_late(end)
+    of_earlier_programs(begin, end, record)
+    untrue_gauges(begin, end, record)
+    changed_counts(record)
+    in_words(record)
+
+
+def last_lines(record):
+    """What a record says after its rows."""
+    return lines_of(record)[2].encode()
+
+
+def show(path, *more):
+    return go("show", "--staff", path, *more)[0]
+
+
+def from_the_files():
+    """A channel is made to want 1 step, 2 steps and so on: the heights in each END are those that the gauges of the
+    longest of these runs were fed."""
+    group("gauges, against the heights in the file of every step")
+    write("f.csv", survey([(900, 9000 * (j % 4 == 1) - 9000 * (j % 4 == 3)) for j in range(14)], "depth_mm,height_um"))
+    poured = [(step, 1 + step % 14, 90 - step * 37 % 190) for step in range(2, 120, 5)]
+    fed = [[], [], []]
+    for steps in range(1, 121):
+        write("f.pour", "step,cell,amount_um\n" + "".join(f"{a},{b},{c}\n" for a, b, c in poured if a <= steps))
+        go("make", "f.csv", "-o", "f.channel", "--width-mm", 300, "--step-ms", 30, "--steps", steps, "--replace")
+        go("run", "f.channel", "-o", "f.end", "--pour", "f.pour", "--filter-every", 11, "--replace")
+        for cell, row in zip((4, 12, 8), fed):
+            row.append(heights(read("f.end"))[cell - 1])
+    check(all(Gauge(row).waves >= 2 for row in fed), "each has waves")
+    for every in (1, 4, 120):
+        go("run", "f.channel", "-o", "f.end", "--pour", "f.pour", "--filter-every", 11, "--staff", "4,12,8", "--record",
+            "f.record", "--every", every, "--replace")
+        lines = count_lines((4, 12, 8), fed)
+        record = read("f.record")
+        check(last_lines(record) == lines + record.splitlines(True)[-1], f"every {every}: {record[-600:]!r}")
+        check(show("f.record").endswith(BY.format("all 120 steps") + wave_words((4, 12, 8), fed, 30)), "as shown")
+    forget("f.csv", "f.pour", "f.channel", *saved("f.end"), "f.record")
+
+
+def whatever_every(record):
+    group("gauges are fed after every step, whatever --every is, and never the start")
+    wave = wave_words(STAFFS, tested.fed, 40)
+    for every in (1, 2, 5, 7, 10, 299, 300, 301, 1000000):
+        go("run", "start.channel", "-o", "g.end", *OPTIONS[:-1], every, "--record", "g.csv")
+        check(last_lines(read("g.csv")).startswith(counted(300)) and whole_record(read("g.csv"), ALL), f"every {every}")
+        told = show("g.csv")
+        if every <= 300:
+            check(told.endswith(BY.format("all 300 steps") + wave), f"every {every}: {told}")
+        else:  # no row tells the time of a step
+            step = [gauge.noted for gauge in map(Gauge, tested.fed)]
+            check(all(f" (from step {a} to step {b})\n" in told for a, b in step), f"every {every}: {told}")
+        go("check", "--staff", "g.csv", "--complete")
+        forget(*saved("g.end"), "g.csv")
+    check(lines_of(record)[2].encode().startswith(counted(300)), "the record of the run that most tests look at")
+
+
+def many_staffs():
+    group("more than eight staffs")
+    draw = random.Random(tested.seed + 5)
+    for cells, steps in ((30, 300), (120, 90), (256, 60)):
+        write("m.csv", survey([(700, draw.randrange(-9000, 9000)) for _ in range(cells)], "depth_mm,height_um"))
+        go("make", "m.csv", "-o", "m.channel", "--width-mm", 500, "--step-ms", 40, "--steps", steps)
+        for number in sorted({8, 9, 16, 17, 20, cells}):
+            marked = draw.sample(range(1, cells + 1), min(number, cells))
+            options = ("--filter-every", 20, "--staff", ",".join(map(str, marked)), "--record", "m.r")
+            go("run", "m.channel", "-o", "m.each", *options)
+            fed = every_height(read("m.r"))
+            check(last_lines(read("m.r")).startswith(count_lines(marked, fed)) and sum(Gauge(row).waves for row in fed),
+                f"{number} of {cells}")
+            forget("m.r", *saved("m.each"))
+            go("run", "m.channel", "-o", "m.end", *options, "--every", 7, "--checkpoint", "m.check",
+                "--checkpoint-every", 25)
+            record = read("m.r")
+            check(last_lines(record).startswith(count_lines(marked, fed)), f"{number} of {cells}, every 7")
+            step = counts(read("m.check"))[1]
+            behind = up_to(record, step)
+            text = beside((read("m.channel"), 20, []), (read("m.check"), behind,
+                gauge_lines(marked, [row[:step] for row in fed])))
+            check(read("m.check.run").decode().startswith(text.rsplit("sum", 1)[0]), "beside the checkpoint")
+            # from the checkpoint, as a killed run leaves it
+            os.rename("m.r", "m.r.open")
+            forget(*saved("m.end"))
+            go("run", "m.channel", "-o", "m.end", *options, "--every", 7, "--checkpoint", "m.check",
+                "--checkpoint-every", 25, says="m.check: is of this run, cut before: goes on after step")
+            check(read("m.r") == record, f"{number} of {cells}: gone on with, another record")
+            told = show("m.r", "--svg", "m.svg")
+            check(told.endswith(BY.format(f"all {steps} steps") + wave_words(marked, fed, 40)), "as shown")
+            picture(read("m.svg"), [Gauge(row).waves for row in fed])
+            forget("m.r", "m.svg", *saved("m.end", "m.check"))
+        forget("m.channel", "m.csv")
+
+
+def picture(svg, waves):
+    """A picture of a record: a shaded time for each staff that has waves, and one in the key; all within the sheet."""
+    sheet = xml.fromstring(svg)
+    wide, high = float(sheet.get("width")), float(sheet.get("height"))
+    name = "{http://www.w3.org/2000/svg}"
+    shaded = [rect for rect in sheet.iter(name + "rect") if rect.get("class") == "largest"]
+    check(len(shaded) == sum(map(bool, waves)) + 1, f"{len(shaded)} times are shaded for {waves}")
+    for rect in shaded:
+        x, y, w, h = (float(rect.get(at)) for at in ("x", "y", "width", "height"))
+        if not (110 <= x and x + w <= 970.1 and w >= 1.9 and 0 <= y and y + h <= high and wide == 1000):
+            check(False, f"{x}, {y}, {w}, {h}: not within the panels")
+    check(all(float(text.get("y")) < high for text in sheet.iter(name + "text") if text.get("y")),
+        "words within the sheet")
+
+
+def small_waves():
+    group("waves of the same height, and none")
+    draw = random.Random(tested.seed + 6)
+    same = 0
+    for k in range(12):
+        write("w.csv", survey([(500, draw.randrange(-2, 3)) for _ in range(12)], "depth_mm,height_um"))
+        go("make", "w.csv", "-o", "w.channel", "--width-mm", 300, "--step-ms", 40, "--steps", 500, "--replace")
+        go("run", "w.channel", "-o", "w.end", "--staff", ",".join(map(str, range(1, 13))), "--record", "w.r",
+            "--replace")
+        fed = every_height(read("w.r"))
+        check(last_lines(read("w.r")).startswith(count_lines(range(1, 13), fed)), "small waves")
+        for row in fed:
+            at = [j for j in range(1, 500) if row[j - 1] < 0 <= row[j]]
+            sizes = [max(row[a:b]) - min(row[a:b]) for a, b in zip(at, at[1:])]
+            same += sizes.count(max(sizes, default=0)) > 1
+    check(same >= 10, f"the largest height comes twice or more at {same} staffs only")
+    write("w.csv", survey([(500,)] * 12, "depth_mm"))
+    go("make", "w.csv", "-o", "w.channel", "--width-mm", 300, "--step-ms", 40, "--steps", 50, "--replace")
+    go("run", "w.channel", "-o", "w.end", "--staff", "4,9", "--record", "w.r", "--replace")
+    still = "# cell {}: 50 heights from step 1, 0 waves, largest 0 um, sum 0 um\n"
+    check(last_lines(read("w.r")).decode().startswith(still.format(4) + still.format(9)), "still water")
+    check(show("w.r", "--svg", "w.svg").endswith(
+        BY.format("all 50 steps") + "  cell 4: no complete wave\n  cell 9: no complete wave\n"), "no complete wave")
+    picture(read("w.svg"), [0, 0])
+    forget("w.csv", "w.channel", "w.r", "w.svg", *saved("w.end"))
+
+
+def gone_on_with(begin, end, record):
+    group("gauges through checkpoints, interrupts and refused steps")
+    draw = random.Random(tested.seed + 7)
+    command = ("run", "start.channel", "-o", "g.end", *OPTIONS, "--record", "g.csv", "--checkpoint", "g.check")
+    files = ("g.csv", "g.csv.open", *saved("g.end", "g.check"))
+    for every in (1, 3, 33, 149, 299):
+        go(*command, "--checkpoint-every", every)
+        check(read("g.csv") == record, "checkpoints change nothing")
+        step = counts(read("g.check"))[1]
+        # under other names, and the same RECORD
+        go("run", "g.check", "-o", "h.end", *OPTIONS, "--record", "g.csv")
+        check(read("g.csv") == record and read("h.end") == end, f"from step {step} under another name")
+        check(read("h.end.run").decode() == beside((begin, 7, POUR), known(end, up_to(record, 300))), "and beside it")
+        forget(*files, *saved("h.end"))
+    # refused steps, again and again
+    for step in (1, *sorted(draw.sample(range(2, 299), 6))):
+        write("dry.csv", read("pour.csv").replace(f"\n{step + 1},".encode(), f"\n# {step + 1},".encode()) +
+            b"".join(f"{step + 1},{cell},-1000000\n".encode() for cell in range(1, 9)))
+        for _ in range(2):
+            go(*(word if word != "pour.csv" else "dry.csv" for word in command), "--checkpoint-every", 40, status=OPEN)
+            check(last_lines(read("g.csv.open")).startswith(counted(step)), f"open at step {step}")
+            told = show("g.csv.open")
+            check(f"open: {step} of 300 steps accepted" in told and
+                BY.format(f"the first {step} step{'s' * (step > 1)}") in told, told)
+            check("complete:" not in told, told)
+            if step >= 5:
+                check(told.endswith(wave_words(STAFFS, [row[:step] for row in tested.fed], 40)), told)
+        forget(*files, "dry.csv")
+    interrupted_slowly()
+
+
+def interrupted_slowly():
+    """A run of many steps is interrupted and killed; what it tells then, and in the end."""
+    go("make", "start.csv", "-o", "slow.channel", "--width-mm", 1000, "--step-ms", 40, "--steps", 60000)
+    cells = (3, 30, 1, 2, 4, 5, 6, 7, 8, 9)
+    options = ("--filter-every", 20, "--staff", ",".join(map(str, cells)))
+    words = ("run", "slow.channel", "-o", "s.end", *options, "--every", 50, "--record", "s.csv", "--checkpoint",
+        "s.check", "--checkpoint-every", 997)
+    go(*words)
+    whole = read("s.csv")
+    forget("s.csv", *saved("s.end", "s.check"))
+    go("run", "slow.channel", "-o", "t.end", *options, "--record", "t.csv")
+    fed = every_height(read("t.csv"))
+    forget("t.csv", *saved("t.end"))
+    check(last_lines(whole).startswith(count_lines(cells, fed)), "in one go")
+    for size in (20000, 40000):
+        process = start(*words)
+        until(process, grown("s.csv.open", size))
+        process.send_signal(signal.SIGINT)
+        _, err = process.communicate(timeout=60)
+        check(process.returncode == INTERRUPTED, f"{err!r}")
+        step = counts(read("s.end"))[1]
+        lines = count_lines(cells, [row[:step] for row in fed])
+        check(last_lines(read("s.csv.open")).startswith(lines), f"interrupted at step {step}")
+        check(BY.format(f"the first {step:,} steps") in show("s.csv.open"), "of which steps they are")
+        process = start(*words)
+        until(process, grown("s.csv.open", size + 10000))
+        process.kill()
+        process.communicate(timeout=60)
+        told = show("s.csv.open")
+        check(told.endswith(CUT) and "proved" not in told, told)
+    go(*words, says="is of this run, cut before: goes on")
+    check(read("s.csv") == whole, "interrupted, killed and gone on with: another record")
+    forget("slow.channel", "s.csv", *saved("s.end", "s.check"), *parts_left())
+
+
+def begun_late(end):
+    group("gauges of a record that begins late")
+    go("run", "start.channel", "-o", "p.end", *NO_STAFFS, "--checkpoint", "p.check", "--checkpoint-every", 157)
+    shutil.copy("p.check", "copied")
+    for source, every in (("p.check", 5), ("copied", 5), ("p.check", 1), ("p.check", 143)):
+        first = -(-157 // every) * every
+        line = ("run", source, "-o", "l.end", *OPTIONS[:-1], every, "--record", "l.csv")
+        go(*line, "--checkpoint", "l.check", "--checkpoint-every", 31)
+        record, after = read("l.csv"), counted(300, 157)
+        if source == "copied":  # a run of its own has filter passes of its own, at the same steps
+            check(read("l.end") == end, "the same numbers")
+        check(last_lines(record).startswith(after) and whole_record(record, f"{ALL}, recorded from step {first}"),
+            f"{source}, every {every}: {record[-700:]!r}")
+        check(b"143 heights from step 158," in last_lines(record), "how many, and from which step on")
+        told = show("l.csv")
+        check(BY.format("the 143 steps from step 158 on") in told and f"recorded from step {first}" in told, told)
+        go("check", "--staff", "l.csv", "--complete")
+        if source == "copied":  # nothing was fed before the channel that the run began with
+            sooner = record[:record.rindex(b"#")].replace(b"143 heights from step 158", b"144 heights from step 157")
+            write("sooner.csv", sooner + record_end(sooner, f"{ALL}, recorded from step {first}"))
+            go("check", "--staff", "sooner.csv", status=REFUSED, says="not whole")
+            forget("sooner.csv")
+        # cut, and gone on with
+        os.rename("l.csv", "l.csv.open")
+        forget(*saved("l.end"))
+        go(*line, "--checkpoint", "l.check", "--checkpoint-every", 31, says="l.check: is of this run, cut before")
+        check(read("l.csv") == record, "gone on with: another record")
+        forget(*saved("l.end"))
+        go("run", "l.check", "-o", "l.end", *OPTIONS[:-1], every, "--record", "l.csv")
+        check(read("l.csv") == record, "gone on with from the checkpoint: another record")
+        forget("l.csv", *saved("l.end", "l.check"))
+    # the first row is that of another START too, but not the first height
+    go("run", "start.channel", "-o", "q.end", *NO_STAFFS, "--checkpoint", "q.check", "--checkpoint-every", 156)
+    line = ("-o", "l.end", *OPTIONS, "--record", "l.csv")
+    go("run", "p.check", *line)
+    go("run", "q.check", *line,
+        says="l.end: is of this run, but its waves are counted from step 158 on: it is not gone on with, and stays")
+    check(last_lines(read("l.csv")).startswith(counted(300, 156)), "from the step after START on")
+    go("run", "q.check", *line, tells="it was there already")
+    # a channel that is complete already, and one whose first step is refused
+    forget("l.csv", *saved("l.end"))
+    go("run", "p.end", "-o", "l.end", *OPTIONS, "--record", "l.csv")
+    check(last_lines(read("l.csv")).startswith(counted(300, 300)), "no step, no height")
+    check(BY.format("no step") in show("l.csv"), "of no step")
+    forget("l.csv", *saved("l.end"), "copied", *saved("p.end", "p.check", "q.end", "q.check"))
+    write("dry.csv", "step,cell,amount_um\n" + "".join(f"1,{cell},-1000000\n" for cell in range(1, 9)))
+    go("run", "start.channel", "-o", "l.end", "--pour", "dry.csv", "--staff", "3,4", "--record", "l.csv", status=OPEN)
+    check(last_lines(read("l.csv.open")).startswith(count_lines((3, 4), ([], []))), "no step is accepted")
+    check(BY.format("no step") in show("l.csv.open"), "of no step")
+    forget("l.csv.open", *saved("l.end"), "dry.csv")
+
+
+def of_earlier_programs(begin, end, record):
+    """What an earlier program left has the same rows, and knows nothing of gauges."""
+    group("gauges beside what an earlier program left")
+    run = (begin, 7, POUR)
+    command = ("run", "start.channel", "-o", "e.end", *OPTIONS, "--record", "e.csv", "--checkpoint", "e.check",
+        "--checkpoint-every", 140)
+    go(*command)
+    rows, half = up_to(record, 300), read("e.check")
+    whole = rows + record_end(rows, ALL)
+    old = {"e.csv": whole, "e.end": end, "e.end.run": beside(run, (end, rows)), "e.check": half,
+           "e.check.run": beside(run, (half, up_to(record, 280)))}
+
+    def leave(*names, **more):
+        forget("e.csv", "e.csv.open", *saved("e.end", "e.check"))
+        for name, data in {**{name: old[name] for name in names}, **more}.items():
+            write(name.replace("_", "."), data)
+
+    # all of it is there: it stays complete, and tells no counts
+    leave(*old)
+    before = listing()
+    go(*command, tells=r"e.end: complete: all 300 steps accepted \(it was there already\)")
+    check(listing() == before, "what an earlier program has completed stays")
+    told = show("e.csv")
+    check("complete: all 300 steps accepted" in told and told.endswith(EARLIER) and "proved" not in told, told)
+    go("check", "--staff", "e.csv", "--complete", tells="complete: all 300 steps accepted")
+    # another name for the record gives its counts, and this then too
+    go(*(word if word != "e.csv" else "new.csv" for word in command),
+        says=f"e.end: is of this run, but new.csv.open has not the rows.*e.check: is of this run, but new.csv.open has")
+    check(read("new.csv") == record and read("e.csv") == whole and read("e.end") == end, "another name for the record")
+    check(read("e.end.run").decode() == beside(run, known(end, rows)), "END knows its gauges then")
+    go(*command, says="e.end: is of this run, cut before")
+    check(read("e.csv") == record, "and the record of an earlier program gets its counts")
+    go(*command, tells="it was there already")
+    forget("new.csv")
+    # cut: the same command begins further back, and ends as in one go
+    for name, names, more in (("END", ("e.end", "e.end.run"), {"e_csv_open": rows}),
+                              ("a checkpoint", ("e.check", "e.check.run"), {"e_csv_open": up_to(record, 280)}),
+                              ("a checkpoint, and rows beyond it", ("e.check", "e.check.run"), {"e_csv_open": rows}),
+                              ("both", ("e.end", "e.end.run", "e.check", "e.check.run"), {"e_csv_open": whole}),
+                              ("all but the record", ("e.end", "e.end.run", "e.check", "e.check.run"), {})):
+        leave(*names, **more)
+        _, err = go(*command, name=f"of an earlier program: {name}")
+        if more:
+            check(f"is of this run, but {UNKNOWN.format('its gauges')}: it is not gone on with, and stays" in err, err)
+        check(read("e.csv") == record and read("e.end") == end, f"of an earlier program: {name}: other bytes")
+        check(read("e.end.run").decode() == beside(run, known(end, rows)), f"{name}: beside END")
+        check(whole_record(read("e.csv"), ALL), "whole")
+        forget("e.csv.open")
+    # START of an earlier program: its record is not gone on with, a new one begins there
+    for names, more in (((), {"e_csv_open": up_to(record, 280)}), ((), {"e_csv_open": rows}), (("e.csv",), {})):
+        for replace in ((), ("--replace",)):
+            leave("e.check", "e.check.run", *names, **more)
+            before = listing()
+            go("run", "e.check", "-o", "e.other", *OPTIONS, "--record", "e.csv", *replace, status=REFUSED,
+                says=f"e.check: {UNKNOWN.format('the gauges of its record')}: an earlier program saved it\npathpetal: "
+                     "give the command that this run began with, or record under another name")
+            check(listing() == before, "nothing is written or changed")
+    go("run", "e.check", "-o", "e.other", *OPTIONS, "--record", "other.csv", says="the record begins at step 280")
+    check(last_lines(read("other.csv")).startswith(counted(300, 280)), "a new one counts from there on, and says so")
+    forget("e.csv", "e.csv.open", "other.csv", *saved("e.end", "e.check", "e.other"))
+
+
+def untrue_gauges(begin, end, record):
+    """What stands beside a channel is whole, of this run and has its rows, but its gauges cannot be its own; or a digit
+    of it was changed."""
+    group("gauges beside a channel that are damaged, or not its own")
+    run = (begin, 7, POUR)
+    command = ("run", "start.channel", "-o", "u.end", *OPTIONS, "--record", "u.csv", "--checkpoint", "u.check",
+        "--checkpoint-every", 140)
+    files = ("u.csv", "u.csv.open", *saved("u.end", "u.check"))
+    go(*command)
+    half, behind = read("u.check"), up_to(record, 280)
+    true = gauge_lines(STAFFS, [row[:280] for row in tested.fed])
+    lines = [line.split() for line in true.splitlines()]
+
+    def with_number(gauge, place, number):
+        return "".join(" ".join(line[:place] + [str(number)] + line[place + 1:] if k == gauge else line) + "\n"
+            for k, line in enumerate(lines))
+
+    cell, fed, last, crossings, highest, lowest, largest, total, _, crossed, began, ended = range(1, 13)
+    cases = {"another cell": with_number(0, cell, 4), "cell 0": with_number(1, cell, 0),
+        "cell 257": with_number(2, cell, 257), "one height less": with_number(0, fed, 279),
+        "one more": with_number(1, fed, 281),
+        "all one less": re.sub(r"(gauge \d+) 280 ", r"\1 279 ", true),
+        "all far more": re.sub(r"(gauge \d+) 280 ", r"\1 281 ", true), "a million": with_number(2, fed, 1000001),
+        "another height": with_number(0, last, int(lines[0][last]) - 1), "too low": with_number(0, last, -19999001),
+        "too high": with_number(0, last, 20000001),
+        "too many crossings": with_number(0, crossings, 141), "fewer than none": with_number(0, crossings, -1),
+        "highest below lowest": with_number(0, highest, int(lines[0][lowest]) - 1),
+        "a largest above all": with_number(0, largest, 39999001), "a sum below the largest": with_number(0, total, 1),
+        "a sum too far": with_number(0, total, 10 ** 13), "a crossing to come": with_number(0, crossed, 281),
+        "no crossing noted": with_number(0, crossed, 0), "from the start": with_number(0, began, 1),
+        "no begin": with_number(0, began, 0), "an end before it": with_number(0, ended, int(lines[0][began]) - 1),
+        "an end beyond the last crossing": with_number(0, ended, 280), "one lacks": "".join(true.splitlines(True)[:2]),
+        "one too many": true + true.splitlines(True)[0], "another order": "".join(reversed(true.splitlines(True))),
+        "none": ""}
+    for name, text in cases.items():
+        forget(*files)
+        write("u.check", half)
+        write("u.check.run", beside(run, (half, behind, text)))
+        write("u.csv.open", behind)
+        go(*command, name=name, says=f"u.check: is of this run, but ({UNKNOWN.format('its gauges')}|its waves are "
+            "counted from step [02] on): it is not gone on with, and stays")
+        check(read("u.csv") == record and read("u.end") == end, f"{name}: other bytes")
+        go(*command, name=name, tells="it was there already")
+        # the same beside START
+        forget(*saved("u.end"), "u.csv")
+        write("u.check", half)
+        write("u.check.run", beside(run, (half, behind, text)))
+        write("u.csv.open", behind)
+        before = listing()
+        go("run", "u.check", "-o", "u.end", *OPTIONS, "--record", "u.csv", status=REFUSED, name=name,
+            says=f"u.check: {UNKNOWN.format('the gauges of its record')}")
+        check(listing() == before, f"{name}: something was written or changed")
+    # a digit changed: its sum tells, whichever it is
+    text = beside(run, (half, behind, true))
+    forget(*files)
+    for place in [k for k in range(text.index("gauge"), text.index("sum ")) if text[k].isdigit()]:
+        write("u.check", half)
+        write("u.csv.open", behind)
+        write("u.check.run", text[:place] + str((int(text[place]) + 1) % 10) + text[place + 1:])
+        before = listing()
+        go(*command, status=REFUSED, says="u.check.run: is none that a run writes beside its channel")
+        check(listing() == before, "something was written or changed")
+    write("u.check.run", text)
+    go(*command, says="u.check: is of this run, cut before: goes on after step 280")
+    check(read("u.csv") == record, "as it was saved it is gone on with")
+    forget(*files)
+
+
+def changed_counts(record):
+    group("a record whose counts were changed")
+    head, rows, last = lines_of(record)
+    whole, lines = head + "".join(rows), last.splitlines(True)
+    ended = lambda text, words=ALL: text + record_end(text.encode(), words).decode()
+    number = lambda text, name, to: re.sub(rf"(# cell 3: .*?){name}", rf"\g<1>{to}", text, flags=re.S)
+    one, two, three = lines[:3]
+    places = [k for k, c in enumerate(last[:last.rindex("# complete")]) if c.isdigit()]
+    cases = {f"a digit changed at {k}": whole + last[:k] + str((int(last[k]) + 1) % 10) + last[k + 1:] for k in places}
+    cases.update({"a line lost": whole + two + three + lines[3], "all lines lost": whole + lines[3],
+        "a word changed": whole + last.replace("waves", "wave"),
+        "spaces": whole + last.replace(", largest", ",  largest")})
+    # by somebody who works the sum out anew
+    cases.update({name: ended(whole + text) for name, text in {
+        "one lacks": one + two, "one twice": one + one + two + three, "another order": two + one + three,
+        "other cells": (one + two + three).replace("cell 30", "cell 29"),
+        "fewer heights": (one + two + three).replace("300 heights", "299 heights"),
+        "heights of one fewer": one.replace("300 heights from step 1", "299 heights from step 2") + two + three,
+        "waves that cannot be": number(one, "3 waves", "150 waves") + two + three,
+        "none, with a largest": re.sub(r"3 waves|, noted.*(?=\n)", lambda m: "0 waves" if m[0][0] == "3" else "", one)
+            + two + three,
+        "a sum below the largest": re.sub(r"sum \d+", "sum 1", one) + two + three,
+        "a sum too far": re.sub(r"sum \d+", "sum 99999999", one) + two + three,
+        "a largest above all": re.sub(r"largest \d+ um, sum \d+", "largest 39999001 um, sum 39999001", one) + two
+            + three,
+        "noted before the first": re.sub(r"from step \d+ to", "from step 1 to", one) + two + three,
+        "noted beyond the last": re.sub(r"to step \d+\n", "to step 301\n", one) + two + three,
+        "noted backwards": re.sub(r"to step \d+\n", "to step 2\n", one) + two + three}.items()})
+    cases["between the rows"] = ended(head + "".join(rows[:9]) + one + two + three + "".join(rows[9:]))
+    cases["before the rows"] = ended(head + one + two + three + "".join(rows))
+    for name, text in cases.items():
+        write("c.csv", text)
+        told = show("c.csv")
+        check("not whole: cut or changed after it was written" in told and "complete" not in told and
+            "proved" not in told and told.endswith(NONE.format("the record is not whole")), f"{name}: {told}")
+        go("check", "--staff", "c.csv", "--complete", status=REFUSED, name=name)
+    # cut inside what its gauges counted, or after it: open, as the rows alone are
+    for name, text in (("inside", whole + one + two[:30]), ("after a line", whole + one),
+                       ("after all", whole + one + two + three), ("in the last line", (whole + last)[:-9])):
+        write("c.csv", text)
+        told = show("c.csv")
+        check("open: cut after step 300" in told and told.endswith(CUT) and "proved" not in told, f"cut {name}: {told}")
+        go("check", "--staff", "c.csv", "--complete", status=OPEN, name=name)
+    # an endless count of such lines
+    write("c.csv", whole + one * 200000)
+    check("proved" not in show("c.csv"), "many lines")
+    forget("c.csv")
+
+
+def in_words(record):
+    """Records of earlier programs tell no counts, and their pictures none; those of this one do."""
+    group("gauges in words and in the picture")
+    rows = up_to(record, 300)
+    for name, text, words in (
+            ("complete", rows + record_end(rows, ALL), "complete: all 300 steps accepted"),
+            ("open", up_to(record, 145) + record_end(up_to(record, 145), "open: 148 of 300 steps accepted"),
+                "open: 148 of 300 steps accepted"),
+            ("without a sum", record.splitlines(True)[0] + b"".join(record_rows(record)) +
+                b"# complete: 300 of 300 steps accepted\n", "cannot tell whether whole")):
+        write("o.csv", text)
+        out = show("o.csv", "--svg", "o.svg")
+        check(words in out and out.endswith(EARLIER) and "proved" not in out, f"{name}: {out}")
+        check("largest" not in "".join(xml.fromstring(read("o.svg")).itertext()).split("}")[-1], "nor does its picture")
+        forget("o.csv", "o.svg")
+    out = show("one.csv", "--svg", "o.svg")
+    words = " ".join(xml.fromstring(read("o.svg")).itertext())
+    for row in tested.fed:
+        gauge = Gauge(row)
+        mean = (2 * gauge.sum + gauge.waves) // (2 * gauge.waves)
+        check(f"{gauge.waves} wave{'s' * (gauge.waves > 1)}, mean {mean / 1000:.3f} mm, largest "
+            f"{gauge.largest / 1000:.3f} mm" in words, f"the picture's words: {words}")
+    check("waves by the proved counts of all 300 steps" in words and "(noted by the host)" in words, words)
+    picture(read("o.svg"), [Gauge(row).waves for row in tested.fed])
+    forget("o.svg")
