@@ -18,7 +18,7 @@ use Rattle.packing.specs.Small.{Small, Bounded, bounded-then, bounded-te
 use Rattle.packing.specs.Inputs.{allowed-bounded, made-bounded}
 use Rattle.packing.specs.Steps.{fluxes-bounded, step-small, filter-small, run-small}
 
-read-bounded : (fits : ℕ → Bool) (poured : List Row) (s : List ℕ) → Bounded (readWith fits poured s)
+pub read-bounded : (fits : ℕ → Bool) (poured : List Row) (s : List ℕ) → Bounded (readWith fits poured s)
 unfolding readWith channelOf place
 read-bounded fits poured s =
     bounded-test _ fileLength _ refl (λ _.

@@ -2,4 +2,5 @@ pub mod Small
 pub mod Inputs
 pub mod Steps
 pub mod Answers
+pub mod Gauges
 pub mod Packed

@@ -7,7 +7,10 @@ use mathlib.Core.List.{List}
 use Rattle.rule.specs.declared.Answer.{Answer}
 use Rattle.rule.specs.Calls.{packed, checkFile, stepFile, filterFile, runForFile, makeFile}
 use Rattle.packing.specs.Small.{Small}
+use Rattle.rule.specs.Rows.{Row}
+use Rattle.gauge.specs.Calls.{placeFile, feedFile, readState}
 use Rattle.packing.specs.Answers.{check-answer, step-answer, filter-answer, run-answer, make-answer}
+use Rattle.packing.specs.Gauges.{place-answer, feed-answer, read-answer}
 
 -- the answer that is in a number: pathpetal_number, pathpetal_stage, pathpetal_place and pathpetal_count of the header
 unfoldable pub unpacked : ℕ → Answer
@@ -52,3 +55,12 @@ module _ {p : ℕ} where
 
   pub run-unpacked : (most : ℕ) (s : List ℕ) → let a = runForFile most s .answer in p ≡ packed a → unpacked p ≡ a
   run-unpacked most s z = by-small _ (run-answer most s) z
+
+  pub place-unpacked : (file : List ℕ) (j : ℕ) (s : List ℕ) → let a = placeFile file j s .answer in p ≡ packed a → unpacked p ≡ a
+  place-unpacked file j s z = by-small _ (place-answer file s j) z
+
+  pub feed-unpacked : (file s : List ℕ) → let a = feedFile file s .answer in p ≡ packed a → unpacked p ≡ a
+  feed-unpacked file s z = by-small _ (feed-answer file s) z
+
+  pub read-unpacked : (s : List ℕ) (room : Row) → let a = readState s room .answer in p ≡ packed a → unpacked p ≡ a
+  read-unpacked s room z = by-small _ (read-answer s room) z

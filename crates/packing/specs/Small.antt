@@ -13,7 +13,6 @@ use Rattle.rule.specs.Checks.{each, eachLevel}
 use Rattle.rule.specs.Calls.{Called, called, packed}
 use Rattle.rule.specs.Ranges.{mostCells, mostSteps}
 use Rattle.places.specs.Lowest.{lowest-most}
-use Rattle.answers.specs.Stages.{leavesBytes}
 use Rattle.checks.specs.Numbers.{number-within}
 
 pub record Small (a : Answer) : Type 0 where
@@ -103,10 +102,10 @@ pub uncounted-small : {A B : Type 0} (lent : A) (after : B → A) (o : Outcome B
 uncounted-small lent after o h = called-small lent (λ _. 0) after o h (counted-none o)
 
 -- an answer that is such a call's
-module _ {a : Answer} {s : List ℕ} {k : Called (List ℕ)} (e : leavesBytes a s ≡ k) where
+module _ {A : Type 0} {a : Answer} {s : A} {k : Called A} (e : _≡_ {A = Called A} (record { answer = a; left = s }) k) where
   pub small-by : Small (k .answer) → Small a
-  small-by h = subst Small (sym (ap (λ (x : Called (List ℕ)). x .answer) e)) h
+  small-by h = subst Small (sym (ap (λ (x : Called A). x .answer) e)) h
 
-  -- packed, beside the bytes that the call leaves
+  -- packed, beside what the call leaves
   pub packs : {n : ℕ} → n ≡ packed a → (n ≡ packed (k .answer)) × (s ≡ k .left)
-  packs p = (p ∙ ap (λ (x : Called (List ℕ)). packed (x .answer)) e, ap (λ (x : Called (List ℕ)). x .left) e)
+  packs p = (p ∙ ap (λ (x : Called A). packed (x .answer)) e, ap (λ (x : Called A). x .left) e)

@@ -1,5 +1,5 @@
--- Any two outcomes that the contracts of the five exported functions permit coincide: for all numbers and bytes, each answers one
--- number and leaves one file. `Post` is the contract itself, as the check reads it. Assumes nothing.
+-- Any two outcomes that the contracts of the eight exported functions permit coincide: for all numbers and bytes, each answers one
+-- number and leaves one file, one state of the gauges or one row of readings. `Post` is the contract itself, as the check reads it. Assumes nothing.
 use Prim.Native.Nat.{ℕ}
 use mathlib.Core.Path.{_≡_, sym, _∙_}
 use mathlib.Core.List.{List}
@@ -17,15 +17,21 @@ use Rattle.pathpetal.proofs.pathpetal_filter.Kinds as filter-kinds
 use Rattle.pathpetal.proofs.pathpetal_filter.Reads as filter-reads
 use Rattle.pathpetal.proofs.pathpetal_run.Kinds as run-kinds
 use Rattle.pathpetal.proofs.pathpetal_run.Reads as run-reads
+use Rattle.pathpetal.proofs.pathpetal_place_gauge.Kinds as place-gauge-kinds
+use Rattle.pathpetal.proofs.pathpetal_place_gauge.Reads as place-gauge-reads
+use Rattle.pathpetal.proofs.pathpetal_feed_gauges.Kinds as feed-gauges-kinds
+use Rattle.pathpetal.proofs.pathpetal_feed_gauges.Reads as feed-gauges-reads
+use Rattle.pathpetal.proofs.pathpetal_read_gauges.Kinds as read-gauges-kinds
+use Rattle.pathpetal.proofs.pathpetal_read_gauges.Reads as read-gauges-reads
 
--- in the number and in the file
-pub record Coincide (r r′ : ℕ) (s s′ : List ℕ) : Type 0 where
+-- in the number and in what is left: the file, the gauges or the readings
+pub record Coincide {A : Type 0} (r r′ : ℕ) (s s′ : A) : Type 0 where
   pub answer : r ≡ r′
-  pub file : s ≡ s′
+  pub left : s ≡ s′
 
 -- what both contracts say they are
-coincide : {r r′ n : ℕ} {s s′ t : List ℕ} → (r ≡ n) × (s ≡ t) → (r′ ≡ n) × (s′ ≡ t) → Coincide r r′ s s′
-coincide p p′ = record { answer = p .0 ∙ sym (p′ .0); file = p .1 ∙ sym (p′ .1) }
+coincide : {A : Type 0} {r r′ n : ℕ} {s s′ t : A} → (r ≡ n) × (s ≡ t) → (r′ ≡ n) × (s′ ≡ t) → Coincide r r′ s s′
+coincide p p′ = record { answer = p .0 ∙ sym (p′ .0); left = p .1 ∙ sym (p′ .1) }
 
 module _ (κs : Lfts 4) where
   pub one-outcome-make : (a : Dens κs make-kinds.ps) (r r′ : resT make-kinds.r κs .Denot) (x x′ : AtExit (endedOf 4 make-kinds.ps make-kinds.r) κs) → make-reads.Post κs a r x → make-reads.Post κs a r′ x′ → Coincide r r′ (now (x .1 .1 .1 .1 .1 .1 .1 .0)) (now (x′ .1 .1 .1 .1 .1 .1 .1 .0))
@@ -34,6 +40,15 @@ module _ (κs : Lfts 4) where
 module _ (κs : Lfts 2) where
   pub one-outcome-step : (a : Dens κs step-kinds.ps) (r r′ : resT step-kinds.r κs .Denot) (x x′ : AtExit (endedOf 2 step-kinds.ps step-kinds.r) κs) → step-reads.Post κs a r x → step-reads.Post κs a r′ x′ → Coincide r r′ (now (x .0)) (now (x′ .0))
   one-outcome-step a r r′ x x′ p p′ = coincide (p .0) (p′ .0)
+
+  pub one-outcome-place-gauge : (a : Dens κs place-gauge-kinds.ps) (r r′ : resT place-gauge-kinds.r κs .Denot) (x x′ : AtExit (endedOf 2 place-gauge-kinds.ps place-gauge-kinds.r) κs) → place-gauge-reads.Post κs a r x → place-gauge-reads.Post κs a r′ x′ → Coincide r r′ (now (x .1 .0)) (now (x′ .1 .0))
+  one-outcome-place-gauge a r r′ x x′ p p′ = coincide p p′
+
+  pub one-outcome-feed-gauges : (a : Dens κs feed-gauges-kinds.ps) (r r′ : resT feed-gauges-kinds.r κs .Denot) (x x′ : AtExit (endedOf 2 feed-gauges-kinds.ps feed-gauges-kinds.r) κs) → feed-gauges-reads.Post κs a r x → feed-gauges-reads.Post κs a r′ x′ → Coincide r r′ (now (x .1 .0)) (now (x′ .1 .0))
+  one-outcome-feed-gauges a r r′ x x′ p p′ = coincide p p′
+
+  pub one-outcome-read-gauges : (a : Dens κs read-gauges-kinds.ps) (r r′ : resT read-gauges-kinds.r κs .Denot) (x x′ : AtExit (endedOf 2 read-gauges-kinds.ps read-gauges-kinds.r) κs) → read-gauges-reads.Post κs a r x → read-gauges-reads.Post κs a r′ x′ → Coincide r r′ (now (x .1 .0)) (now (x′ .1 .0))
+  one-outcome-read-gauges a r r′ x x′ p p′ = coincide p p′
 
 module _ (κs : Lfts 1) where
   pub one-outcome-check : (a : Dens κs check-kinds.ps) (r r′ : resT check-kinds.r κs .Denot) (x x′ : AtExit (endedOf 1 check-kinds.ps check-kinds.r) κs) → check-reads.Post κs a r x → check-reads.Post κs a r′ x′ → _≡_ {A = ℕ} r r′

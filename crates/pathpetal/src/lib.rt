@@ -1,7 +1,8 @@
-// What C calls: each call over the bytes of a channel file, with its answer packed into one number.
+// What C calls: each call over the bytes of a channel file or of gauges, with its answer packed into one number.
 ghost use mathlib.Core.Path.{_≡_};
 ghost use Rattle.rule.specs.Calls.{packed, checkFile, stepFile, filterFile, runForFile, makeFile};
 ghost use Rattle.little.specs.Numbers.{AreBytes};
+ghost use Rattle.gauge.specs.Calls.{placeFile, feedFile, readState};
 
 // Makes the file of a channel with no step accepted.
 #[no_mangle]
@@ -65,4 +66,28 @@ pub extern "C" fn pathpetal_run(file: &mut [u8], most: u64) -> u64
 {
     let none = [0u8; 1];
     packing::pack(walk::walk(call::Call::Run(most), file, &none))
+}
+
+// A gauge placed at a cell.
+#[no_mangle]
+pub extern "C" fn pathpetal_place_gauge(file: &[u8], gauges: &mut [u8], cell: u64) -> u64
+    ensures { λ r. ⌜ (r ≡ packed (placeFile (now (file .entry)) cell (now (gauges .entry)) .answer)) × (now (gauges .exit) ≡ placeFile (now (file .entry)) cell (now (gauges .entry)) .left) ⌝ }
+{
+    packing::pack(gauges::place_file(file, cell, gauges))
+}
+
+// Each gauge fed the height at its cell.
+#[no_mangle]
+pub extern "C" fn pathpetal_feed_gauges(file: &[u8], gauges: &mut [u8]) -> u64
+    ensures { λ r. ⌜ (r ≡ packed (feedFile (now (file .entry)) (now (gauges .entry)) .answer)) × (now (gauges .exit) ≡ feedFile (now (file .entry)) (now (gauges .entry)) .left) ⌝ }
+{
+    packing::pack(gauges::feed_file(file, gauges))
+}
+
+// What the gauges have counted.
+#[no_mangle]
+pub extern "C" fn pathpetal_read_gauges(gauges: &[u8], readings: &mut [i64]) -> u64
+    ensures { λ r. ⌜ (r ≡ packed (readState (now (gauges .entry)) (now (readings .entry)) .answer)) × (now (readings .exit) ≡ readState (now (gauges .entry)) (now (readings .entry)) .left) ⌝ }
+{
+    packing::pack(gauges::read(gauges, readings))
 }
