@@ -1,0 +1,5 @@
+pub mod Staffs
+pub mod Back
+pub mod Fed
+pub mod Heights
+pub mod Placed

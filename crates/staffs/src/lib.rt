@@ -1,0 +1,1 @@
+// "Gauges": what follows for gauges whose records are known stands in specs/.
