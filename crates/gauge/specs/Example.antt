@@ -5,7 +5,7 @@ use lib.IntN.{ℤ, pos}
 use Rattle.rule.specs.Rows.{Row, minus, map, sum}
 use Rattle.gauge.specs.declared.Gauge.{Gauge}
 use Rattle.gauge.specs.Waves.{upward, cutBefore, cutAfter, begun, butLast, wavesIn, higher, lower, highestFrom, lowestFrom, highest, lowest, heightOf, heights, waveCount, largestHeight, sumOfHeights}
-use Rattle.gauge.specs.Gauge.{lastOf, lastPiece, since, gaugeOf, met, ended, crossed, widened, passed, grown, fedAll}
+use Rattle.gauge.specs.Gauge.{lastOf, lastPiece, since, gaugeOf, met, waveOf, ended, crossed, widened, passed, grown, fedAll}
 
 -- crossings at the 2nd, 6th and 9th height; two complete waves, 8 and 9 high
 abbrev example : Row
@@ -24,7 +24,7 @@ by-record = refl
 
 -- the same, height by height
 by-steps : fedAll (gaugeOf (pos 7) []) example ≡ counted
-unfolding upward cutBefore cutAfter begun butLast wavesIn higher lower highestFrom lowestFrom highest lowest heightOf heights largestHeight sumOfHeights lastOf lastPiece since gaugeOf map sum met ended crossed widened passed grown fedAll
+unfolding upward cutBefore cutAfter begun butLast wavesIn higher lower highestFrom lowestFrom highest lowest heightOf heights largestHeight sumOfHeights lastOf lastPiece since gaugeOf map sum met waveOf ended crossed widened passed grown fedAll
 by-steps = refl
 
 -- how many waves, the largest height and the sum of the heights, of several records: nothing fed; the first height no crossing, at zero

@@ -45,8 +45,11 @@ met g = ltZ (pos 0) (g .crossings)
 unfoldable pub waves : Gauge → ℤ
 waves g = cond (met g) (g .crossings -ℤ pos 1) (pos 0)
 
+unfoldable pub waveOf : ℤ → ℤ → ℤ → ℤ
+waveOf crossings highest lowest = cond (ltZ (pos 0) crossings) (highest -ℤ lowest) (pos 0)
+
 unfoldable pub ended : Gauge → ℤ
-ended g = cond (met g) (g .highest -ℤ g .lowest) (pos 0)
+ended g = waveOf (g .crossings) (g .highest) (g .lowest)
 
 unfoldable pub crossed : Gauge → ℤ → Gauge
 crossed g x =

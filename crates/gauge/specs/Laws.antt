@@ -1,7 +1,7 @@
 -- "Gauges": what follows where a test passes or fails. Assumes nothing.
 use mathlib.Core.Path.{_≡_}
 use mathlib.Core.Bool.{Bool, true, false, cond}
-use Prim.Native.Nat.{_≤_}
+use Prim.Native.Nat.{ℕ, _≤_}
 use lib.Dec.{lit≤}
 use lib.IntN.{ℤ, pos, natAbs, _-ℤ_}
 use lib.Signed.{ltZ}
@@ -9,7 +9,7 @@ use Rattle.whole.specs.Expr.{var, lit, sub, abs≤}
 use Rattle.gauge.specs.declared.Gauge.{Gauge}
 use Rattle.gauge.specs.Small.{Small}
 use Rattle.gauge.specs.Waves.{upward, higher, lower}
-use Rattle.gauge.specs.Gauge.{isEmpty, inRanges, sound, right, met, below, waves, ended, crossed, widened, passed, grown}
+use Rattle.gauge.specs.Gauge.{isEmpty, inRanges, sound, right, met, below, waves, waveOf, ended, crossed, widened, passed, grown}
 
 module _ (a b : ℤ) where
   pub higher-second : ltZ a b ≡ true → higher a b ≡ b
@@ -27,6 +27,28 @@ module _ (a b : ℤ) where
   pub lower-first : ltZ b a ≡ false → lower a b ≡ a
   unfolding lower
   lower-first e = rw e
+
+-- the higher and the lower of two are no larger than both
+cond-small : (b : Bool) (x y : ℤ) {k : ℕ} → natAbs x ≤ k → natAbs y ≤ k → natAbs (cond b x y) ≤ k
+cond-small true x y p q = p
+cond-small false x y p q = q
+
+pub higher-small : (a b : ℤ) {k : ℕ} → natAbs a ≤ k → natAbs b ≤ k → natAbs (higher a b) ≤ k
+unfolding higher
+higher-small a b p q = cond-small (ltZ a b) b a q p
+
+pub lower-small : (a b : ℤ) {k : ℕ} → natAbs a ≤ k → natAbs b ≤ k → natAbs (lower a b) ≤ k
+unfolding lower
+lower-small a b p q = cond-small (ltZ b a) b a q p
+
+module _ (crossings highest lowest : ℤ) where
+  pub wave-met : ltZ (pos 0) crossings ≡ true → waveOf crossings highest lowest ≡ highest -ℤ lowest
+  unfolding waveOf
+  wave-met e = rw e
+
+  pub wave-none : ltZ (pos 0) crossings ≡ false → waveOf crossings highest lowest ≡ pos 0
+  unfolding waveOf
+  wave-none e = rw e
 
 one-or-none : (b : Bool) → natAbs (cond b (pos 1) (pos 0)) ≤ 1
 one-or-none true = lit≤ tt
@@ -58,8 +80,8 @@ module _ (g : Gauge) where
   waves-small p = fewer-or-none (met g) (g .crossings) (p .crossings)
 
   pub ended-small : Small g → natAbs (ended g) ≤ 40_000_000
-  unfolding ended
-  ended-small p = apart-or-none (met g) (g .highest) (g .lowest) (p .highest) (p .lowest)
+  unfolding ended waveOf
+  ended-small p = apart-or-none (ltZ (pos 0) (g .crossings)) (g .highest) (g .lowest) (p .highest) (p .lowest)
 
   module _ (e : ltZ (pos 0) (g .crossings) ≡ true) where
     pub waves-met : waves g ≡ g .crossings -ℤ pos 1
@@ -67,8 +89,8 @@ module _ (g : Gauge) where
     waves-met = rw e
 
     pub ended-met : ended g ≡ g .highest -ℤ g .lowest
-    unfolding ended met
-    ended-met = rw e
+    unfolding ended
+    ended-met = wave-met (g .crossings) (g .highest) (g .lowest) e
 
   module _ (e : ltZ (pos 0) (g .crossings) ≡ false) where
     pub waves-none : waves g ≡ pos 0
@@ -76,8 +98,8 @@ module _ (g : Gauge) where
     waves-none = rw e
 
     pub ended-none : ended g ≡ pos 0
-    unfolding ended met
-    ended-none = rw e
+    unfolding ended
+    ended-none = wave-none (g .crossings) (g .highest) (g .lowest) e
 
   pub right-empty : isEmpty g ≡ true → right g ≡ true
   unfolding right

@@ -11,7 +11,7 @@ use lib.IntN.{ℤ, pos, _+ℤ_, _-ℤ_, +ℤ-assoc, +ℤ-idl, +ℤ-idr}
 use Rattle.rule.specs.Rows.{Row, map, sum}
 use Rattle.gauge.specs.declared.Gauge.{Gauge}
 use Rattle.gauge.specs.Waves.{upward, Cut, cutBefore, cutAfter, begun, butLast, wavesIn, higher, lower, highestFrom, lowestFrom, highest, lowest, heightOf, heights, largestHeight, sumOfHeights}
-use Rattle.gauge.specs.Gauge.{lastOf, lastPiece, since, gaugeOf, met, ended, crossed, widened, passed, grown, fedAll}
+use Rattle.gauge.specs.Gauge.{lastOf, lastPiece, since, gaugeOf, met, waveOf, ended, crossed, widened, passed, grown, fedAll}
 
 -- a height more at the end: it begins a piece, or is put to the last one
 abbrev added : ℤ → Cut → Cut
@@ -191,11 +191,11 @@ module _ (cell : ℤ) (n : ℕ) (last x : ℤ) where
   met-some p ps = lt-ltb 0 (suc (length ps)) (omega arith)
 
   ended-some : (p : Row) (ps : List Row) → ended (byPieces cell n last (p ∷ ps)) ≡ heightOf (lastPiece (p ∷ ps))
-  unfolding ended heightOf
-  ended-some p ps = rw (met-some p ps) refl
+  unfolding ended waveOf heightOf
+  ended-some p ps = rw (lt-ltb 0 (suc (length ps)) (omega arith)) refl
 
   first-crossing : crossed (byPieces cell n last []) x ≡ byPieces cell (n + 1) x ((x ∷ []) ∷ [])
-  unfolding crossed ended met butLast lastPiece map sum highestFrom highest lowest lowestFrom higher
+  unfolding crossed ended waveOf butLast lastPiece map sum highestFrom highest lowest lowestFrom higher
   first-crossing = refl
 
   -- a crossing: the piece before is a whole wave

@@ -1,8 +1,9 @@
 // "Gauges": one gauge. Its counts are those of the whole record of heights that it was fed, and it keeps eight numbers.
 ghost use mathlib.Core.Path.{_≡_};
-ghost use mathlib.Core.Bool.{true};
+ghost use Prim.Native.Nat.{_≤_};
+ghost use lib.IntN.{natAbs};
 ghost use Rattle.gauge.specs.Waves.{upward, higher, lower};
-ghost use Rattle.gauge.specs.Gauge.{from, isEmpty, inRanges, below, sound, right, waves, ended, grown};
+ghost use Rattle.gauge.specs.Gauge.{from, isEmpty, inRanges, below, sound, right, waves, waveOf, grown};
 ghost use Rattle.gauge.specs.Small.{Small};
 
 // Heights are in µm, in the order in which they were fed.
@@ -127,44 +128,45 @@ pub fn right(g: Gauge) -> bool
     false
 }
 
-// The height of the wave that a crossing ends; 0 where none had begun.
-fn ended(g: Gauge) -> i64
-    requires { ⌜ Small g ⌝ }
-    ensures { λ r. ⌜ r ≡ ended g ⌝ }
+// The height of the wave that a crossing ends, by its highest and its lowest; 0 where none had begun.
+fn ended(crossings: i64, highest: i64, lowest: i64) -> i64
+    requires { ⌜ (natAbs highest ≤ 20_000_000) × (natAbs lowest ≤ 20_000_000) ⌝ }
+    ensures { λ r. ⌜ r ≡ waveOf crossings highest lowest ⌝ }
 {
-    if 0 < g.crossings {
-        g.highest - g.lowest
-    } else {
-        0
-    }
+    if 0 < crossings { highest - lowest } else { 0 }
 }
 
-// The gauge after one height more.
+// The gauge after one height more. The height of a crossing is of the wave that it begins, and not of the one that it ends.
 pub fn grown(g: Gauge, height: i64) -> Gauge
-    requires { ⌜ Small g ⌝ }
+    requires { ⌜ Small g × (natAbs height ≤ 20_000_000) ⌝ }
     ensures { λ r. ⌜ r ≡ grown g height ⌝ }
 {
+    let crossings = g.crossings;
+    let highest = g.highest;
+    let lowest = g.lowest;
+    let top = higher(highest, height);
+    let low = lower(lowest, height);
     if upward(g.last, height) {
-        let wave = ended(g);
+        let wave = ended(crossings, highest, lowest);
         return Gauge {
             cell: g.cell,
             fed: g.fed + 1,
             last: height,
-            crossings: g.crossings + 1,
+            crossings: crossings + 1,
             highest: height,
             lowest: height,
             largest: higher(g.largest, wave),
             sum: g.sum + wave,
         };
     }
-    if 0 < g.crossings {
+    if 0 < crossings {
         return Gauge {
             cell: g.cell,
             fed: g.fed + 1,
             last: height,
-            crossings: g.crossings,
-            highest: higher(g.highest, height),
-            lowest: lower(g.lowest, height),
+            crossings,
+            highest: top,
+            lowest: low,
             largest: g.largest,
             sum: g.sum,
         };
@@ -173,9 +175,9 @@ pub fn grown(g: Gauge, height: i64) -> Gauge
         cell: g.cell,
         fed: g.fed + 1,
         last: height,
-        crossings: g.crossings,
-        highest: g.highest,
-        lowest: g.lowest,
+        crossings,
+        highest,
+        lowest,
         largest: g.largest,
         sum: g.sum,
     }

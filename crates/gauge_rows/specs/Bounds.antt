@@ -9,7 +9,9 @@ use lib.IntN.{ℤ, pos, negsuc, natAbs}
 use lib.Signed.{leZ}
 use Rattle.whole.specs.Ring.{P, N, var, num}
 use Rattle.whole.specs.Order.{at-most}
+use Rattle.whole.specs.Row.{Within}
 use Rattle.whole.specs.Tests.{both}
+use Rattle.rule.specs.Ranges.{mostHeight}
 use Rattle.rule.specs.Rows.{Row, cell, all}
 use Rattle.rows.specs.All.{pass-at}
 use Rattle.gauge.specs.declared.Gauge.{Gauge}
@@ -94,6 +96,7 @@ pub record Feeds (e row out : Row) : Type 0 where
   pub room : length out ≡ stateNumbers
   pub right : all right (gaugesIn row) ≡ true
   pub stand : all (standsIn (length e)) (gaugesIn row) ≡ true
+  pub small : Within mostHeight (length e) e
 
 pub record Reads (row out : Row) : Type 0 where
   pub long : length row ≡ stateNumbers

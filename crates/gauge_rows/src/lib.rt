@@ -4,6 +4,8 @@ ghost use mathlib.Core.Bool.{true};
 ghost use mathlib.Core.List.{[], _∷_};
 ghost use Prim.Native.Nat.{_+_, _*_, _≤_, _<_};
 ghost use lib.ListN.{length};
+ghost use Rattle.whole.specs.Row.{Within};
+ghost use Rattle.rule.specs.Ranges.{mostHeight};
 ghost use Rattle.rule.specs.Rows.{map, all, lowest};
 ghost use Rattle.gauge.specs.Gauge.{right};
 ghost use Rattle.gauge.specs.State.{stateNumbers, readNumbers, numbers, gaugeAt, gaugesIn, flat, hasRoom, standsIn, fedFrom, reading};
@@ -98,7 +100,7 @@ pub fn first_not(row: &[i64], test: Test) -> u64
 
 // A gauge with the height at its cell, of the heights e; an empty place stays.
 fn fed_from(e: &[i64], g: gauge::Gauge) -> gauge::Gauge
-    requires { ⌜ (right g ≡ true) × (standsIn (length (now e)) g ≡ true) ⌝ }
+    requires { ⌜ (right g ≡ true) × ((standsIn (length (now e)) g ≡ true) × Within mostHeight (length (now e)) (now e)) ⌝ }
     ensures { λ r. ⌜ r ≡ fedFrom (now (e .entry)) g ⌝ }
 {
     if gauge::is_empty(g) {

@@ -5,7 +5,8 @@ ghost use Prim.Native.Nat.{_≤_};
 ghost use lib.IntN.{pos};
 ghost use lib.ListN.{length};
 ghost use Rattle.rule.specs.Rows.{lowest};
-ghost use Rattle.rule.specs.Ranges.{mostCells};
+ghost use Rattle.whole.specs.Row.{Within};
+ghost use Rattle.rule.specs.Ranges.{mostCells, mostHeight};
 ghost use Rattle.rule.specs.Refusals.{faultOf};
 ghost use Rattle.rule.specs.Calls.{called, plainly};
 ghost use Rattle.answers.specs.Stages.{leavesBytes};
@@ -172,7 +173,7 @@ pub fn place(n: usize, cell: u64, gauges: &mut [u8]) -> rule::Answer
 
 // Each gauge fed the height at its cell, of the heights e.
 pub fn feed(e: &[i64], gauges: &mut [u8]) -> rule::Answer
-    requires { ⌜ length (now e) ≤ mostCells ⌝ }
+    requires { ⌜ (length (now e) ≤ mostCells) × Within mostHeight (length (now e)) (now e) ⌝ }
     ensures { λ r. ⌜ leavesBytes r (now (gauges .exit)) ≡ plainly (now (gauges .entry)) (fed (now (e .entry)) (now (gauges .entry))) ⌝ }
 {
     let fault = feed_fault(e.len(), gauges);

@@ -6,7 +6,8 @@ use mathlib.Core.List.{List, []}
 use lib.ListN.{length}
 use Rattle.rule.specs.declared.Fault.{Fault}
 use Rattle.rule.specs.Rows.{Row}
-use Rattle.rule.specs.Ranges.{mostCells}
+use Rattle.whole.specs.Row.{Within}
+use Rattle.rule.specs.Ranges.{mostCells, mostHeight}
 use Rattle.rule.specs.Channel.{Channel}
 use Rattle.rule.specs.Refusals.{Outcome, done, numberOf, faultOf, _>>=_}
 use Rattle.rule.specs.Checks.{checked}
@@ -16,7 +17,7 @@ use Rattle.answers.specs.Stages.{early, leavesBytes, refused-first}
 use Rattle.checks.specs.Numbers.{after-done, done-of}
 use Rattle.checks.specs.Met.{checked-outside}
 use Rattle.checks.specs.Facts.{LengthsOf, cells-few}
-use Rattle.checks.specs.Allowed.{checks-passed, shape-lengths}
+use Rattle.checks.specs.Allowed.{checks-passed, shape-lengths, allowed-of}
 use Rattle.form.specs.Reader.{fitsIn}
 use Rattle.opened.specs.Held.{cells-is}
 use Rattle.opened.specs.Opened.{Opened, read-outside, plain-read}
@@ -40,6 +41,9 @@ module _ (c : Channel) (z : numberOf (checked c []) ≡ 0) where
 
   pub heights-long : length (c .e) ≡ c .N
   heights-long = shape-lengths c [] (checks-passed c [] z .0) .1 .e-long
+
+  pub heights-small : Within mostHeight (length (c .e)) (c .e)
+  heights-small = let a = allowed-of c [] z .cells in rw (a .e-long) (a .e-small)
 
   pub place-on : (j : ℕ) (s : List ℕ) → called s (λ (_ : List ℕ). free s) (λ t. t) (placed (c .N) j s) ≡ placeCall c j s
   unfolding placeCall

@@ -72,9 +72,9 @@ pub fn place_file(file: &[u8], cell: u64, gauges: &mut [u8]) -> rule::Answer
 pub fn feed_file(file: &[u8], gauges: &mut [u8]) -> rule::Answer
     ensures { λ r. ⌜ leavesBytes r (now (gauges .exit)) ≡ feedFile (now (file .entry)) (now (gauges .entry)) ⌝ }
 {
-    let fault = reader::check(file, false, file);
-    if fault.number != 0 {
-        return answers::refused(fault, 0);
+    let refusal = reader::check(file, false, file);
+    if refusal.number != 0 {
+        return answers::refused(refusal, 0);
     }
     let n = little::count_at(file, 4) as usize;
     let e = heights(file, n);

@@ -2,31 +2,31 @@
 use mathlib.Core.Path.{_≡_, sym, _∙_, ap}
 use lib.IntN.{pos}
 use lib.Signed.{ltZ}
-use Rattle.whole.specs.Expr.{E, var, sub, back, need, rd-is}
-use Rattle.gauge.specs.declared.Gauge.{Gauge}
-use Rattle.gauge.specs.Small.{Small}
-use Rattle.gauge.specs.Laws.{ended-met, ended-none}
+use mir.Syntax.{w64}
+use mir.ValLaws.{toZ-ofZ}
+use Rattle.whole.specs.Expr.{E, var, sub, need, rd-is}
+use Rattle.gauge.specs.Laws.{wave-met, wave-none}
 use Rattle.gauge.proofs.ended.Statement.{statement}
 use Rattle.gauge.proofs.ended.Tie as tie
 
-abbrev wave : (g : Gauge) → Small g → E
-wave g p = sub (var (g .highest) 20_000_000 (p .highest)) (var (g .lowest) 20_000_000 (p .lowest))
+abbrev wave : tie.Start → E
+wave s = sub (var (s .args .highest) 20_000_000 (s .pre .0)) (var (s .args .lowest) 20_000_000 (s .pre .1))
 
 sub-result : tie.Need-sub-result
-sub-result c = let s = c .before .before .before .before .before in need (wave (s .args .g) (s .pre)) tt
+sub-result c = need (wave (c .before)) tt
 
 returns : tie.Need-returns
 returns c =
-    let s = c .before .before .before .before .before in
-    let g = s .args .g in
-    rd-is (wave g (s .pre)) tt
-    ∙ sym (ended-met g (sym (ap (ltZ (pos 0)) (back (g .crossings) 500_000 (s .pre .crossings) tt)) ∙ c .before .before .if1 .taken))
+    let s = c .before in
+    let a = s .args in
+    rd-is (wave s) tt
+    ∙ sym (wave-met (a .crossings) (a .highest) (a .lowest) (sym (ap (ltZ (pos 0)) (toZ-ofZ w64 (a .crossings) (s .fits .crossings))) ∙ c .if1 .taken))
 
 returns-2 : tie.Need-returns-2
 returns-2 c =
-    let s = c .before .before .before in
-    let g = s .args .g in
-    sym (ended-none g (sym (ap (ltZ (pos 0)) (back (g .crossings) 500_000 (s .pre .crossings) tt)) ∙ c .if1 .left))
+    let s = c .before in
+    let a = s .args in
+    sym (wave-none (a .crossings) (a .highest) (a .lowest) (sym (ap (ltZ (pos 0)) (toZ-ofZ w64 (a .crossings) (s .fits .crossings))) ∙ c .if1 .left))
 
 pub ended-spec : {M : Type 1} → statement M
 ended-spec = tie.close (tie.spec sub-result returns returns-2)

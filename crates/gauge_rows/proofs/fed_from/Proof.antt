@@ -22,7 +22,7 @@ use Rattle.gauge_rows.proofs.fed_from.Tie as tie
 there : (c : tie.Else1) → let a = c .before .before .args in Stands (length (a .e .now)) (a .g)
 there c =
     let s = c .before .before in
-    stands (length (s .args .e .now)) (s .args .g) (sym (c .before .is-empty .ensures) ∙ c .if1 .left) (s .pre .0) (s .pre .1)
+    stands (length (s .args .e .now)) (s .args .g) (sym (c .before .is-empty .ensures) ∙ c .if1 .left) (s .pre .0) (s .pre .1 .0)
 
 -- its cell, as the machine reads it back
 cell-is : (c : tie.Else1) → let g = c .before .before .args .g in toZ w64 (ofZ w64 (g .cell)) ≡ pos (natAbs (g .cell))
@@ -57,16 +57,25 @@ shared-slice-copy-out-grown c =
     let t = there e in
     subst (λ (v : ℤ). natAbs v - 1 < length (e .before .before .args .e .now)) (sym (cell-is e)) (omega (arith, t .least, t .most))
 
+-- the height at its cell, as the machine reads it back
+height-is : (c : tie.After-grown-arg) → let a = c .before .before .before .before .before .args in toZ w64 (ofZ w64 (cell (a .e .now) (natAbs (toZ w64 (ofZ w64 (a .g .cell))) - 1))) ≡ cell (a .e .now) (natAbs (a .g .cell) - 1)
+height-is c =
+    let e = c .before .before .before in
+    toZ-ofZ w64 _ (sfits-of (c .grown-arg .given)) ∙ ap (λ (z : ℤ). cell (e .before .before .args .e .now) (natAbs z - 1)) (cell-is e)
+
 grown-requires : tie.Need-grown-requires
-grown-requires c κs = let s = c .before .before .before .before .before in right-small (s .args .g) (s .pre .0)
+grown-requires c κs =
+    let e = c .before .before .before in
+    let s = e .before .before in
+    let t = there e in
+    (right-small (s .args .g) (s .pre .0), rw (height-is c) (s .pre .1 .1 .at (natAbs (s .args .g .cell) - 1) (omega (arith, t .least, t .most))))
 
 returns-2 : tie.Need-returns-2
 returns-2 c =
     let e = c .before .before .before .before in
     let a = e .before .before .args in
-    let v = toZ-ofZ w64 _ (sfits-of (c .before .grown-arg .given)) in
     c .grown .ensures
-    ∙ ap (grown (a .g)) (v ∙ ap (λ (z : ℤ). cell (a .e .now) (natAbs z - 1)) (cell-is e))
+    ∙ ap (grown (a .g)) (height-is (c .before))
     ∙ sym (fed-gauge (a .e .now) (a .g) (sym (e .before .is-empty .ensures) ∙ e .if1 .left))
 
 pub fed-from-spec : {M : Type 1} → statement M

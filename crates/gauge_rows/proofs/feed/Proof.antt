@@ -36,7 +36,7 @@ fed-from-requires c κs =
     let k = l .before .loop .k in
     let here = c .gauge-at .ensures in (
       ap right here ∙ at-place right row k (s .pre .right) (omega arith),
-      ap (standsIn (length (s .args .e .now))) here ∙ at-place (standsIn (length (s .args .e .now))) row k (s .pre .stand) (omega arith),
+      (ap (standsIn (length (s .args .e .now))) here ∙ at-place (standsIn (length (s .args .e .now))) row k (s .pre .stand) (omega arith), s .pre .small),
     )
 
 put-gauge-requires : tie.Need-put-gauge-requires Inv-loop μ-loop

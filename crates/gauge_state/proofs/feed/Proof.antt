@@ -66,6 +66,7 @@ feed-requires c κs =
       room = refl;
       right = ap (λ r. all right (gaugesIn r)) row ∙ form-passed s (p .0) .1;
       stand = ap (λ r. all (standsIn (length (a .e .now))) (gaugesIn r)) row ∙ p .1 .0;
+      small = e .before .before .before .before .before .pre .1;
     }
 
 slice-aggregate-write-row8 : tie.Need-slice-aggregate-write-row8

@@ -13,7 +13,7 @@ use Rattle.checks.specs.Numbers.{numbered}
 use Rattle.form.specs.Reader.{fitsIn}
 use Rattle.opened.specs.Opened.{Opened, opened-of}
 use Rattle.gauges.specs.Files.{Held, held-by, length-heights}
-use Rattle.gauges.specs.Ways.{feed-unread, feed-read}
+use Rattle.gauges.specs.Ways.{heights-small, feed-unread, feed-read}
 use Rattle.gauges.proofs.feed_file.Statement.{statement}
 use Rattle.gauges.proofs.feed_file.Tie as tie
 
@@ -70,7 +70,10 @@ slice-aggregate-feed : tie.Need-slice-aggregate-feed
 slice-aggregate-feed c = let h = c .before in sym (ap length (part-is h) ∙ heights-long (h .before))
 
 feed-requires : tie.Need-feed-requires
-feed-requires c κs = let h = c .before .before in omega (arith, ap length (part-is h), heights-long (h .before), held (h .before) .most)
+feed-requires c κs =
+    let h = c .before .before in
+    let e = h .before .before in
+    (omega (arith, ap length (part-is h), heights-long (h .before), held (h .before) .most), rw (part-is h) (heights-small (channelOf (e .before .before .before .before .before .args .file .now)) (taken e .checked-0)))
 
 same-length : tie.Need-same-length
 same-length c = search needs
