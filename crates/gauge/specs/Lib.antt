@@ -1,7 +1,7 @@
 pub mod Waves
 pub mod Gauge
 pub mod State
-pub mod Calls
+pub mod OnGauges
 pub mod Example
 pub mod Record
 pub mod Small

@@ -25,7 +25,7 @@ use Rattle.places.specs.Lowest.{lowest-most}
 use Rattle.gauge.specs.declared.Gauge.{Gauge}
 use Rattle.gauge.specs.Gauge.{gaugeOf}
 use Rattle.gauge.specs.State.{stateLength, stateNumbers, readNumbers, numbers, reading, gaugeAt, gaugesIn, flat, stateRow, gaugesOf, stateOf, formed, taken, free, withGauge, placeable, placed, fedFrom, feedable, fed, readable, readings}
-use Rattle.gauge.specs.Calls.{readState}
+use Rattle.gauge.specs.OnGauges.{readState}
 use Rattle.gauge_rows.specs.Stored.{stored, length-stored}
 use Rattle.gauge_rows.specs.Chunks.{long-numbers, fedPlace, long-fed, fed-all, length-flat}
 use Rattle.gauge_state.specs.Left.{leavesRow}

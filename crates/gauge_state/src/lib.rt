@@ -12,7 +12,7 @@ ghost use Rattle.rule.specs.Calls.{called, plainly};
 ghost use Rattle.answers.specs.Stages.{leavesBytes};
 ghost use Rattle.gauge.specs.Gauge.{gaugeOf};
 ghost use Rattle.gauge.specs.State.{stateLength, stateRow, gaugesOf, formed, free, placeable, placed, feedable, fed, readable};
-ghost use Rattle.gauge.specs.Calls.{readState};
+ghost use Rattle.gauge.specs.OnGauges.{readState};
 ghost use Rattle.gauge_rows.specs.Passes.{passes};
 ghost use Rattle.gauge_state.specs.Left.{leavesRow};
 

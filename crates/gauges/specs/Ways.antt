@@ -22,7 +22,7 @@ use Rattle.form.specs.Reader.{fitsIn}
 use Rattle.opened.specs.Held.{cells-is}
 use Rattle.opened.specs.Opened.{Opened, read-outside, plain-read}
 use Rattle.gauge.specs.State.{free, placed, fed}
-use Rattle.gauge.specs.Calls.{placeCall, feedCall, placeFile, feedFile}
+use Rattle.gauge.specs.OnGauges.{placeCall, feedCall, placeFile, feedFile}
 
 -- a channel in lent rows: refused by its own checks
 module _ (c : Channel) (s : List ℕ) (f : Fault) (e : f ≡ faultOf (checked c [])) (z : f .number ≡ 0 → ⊥) where

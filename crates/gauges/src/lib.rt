@@ -4,7 +4,7 @@ ghost use Rattle.rule.specs.Counted.{counted};
 ghost use Rattle.rule.specs.File.{channelOf};
 ghost use Rattle.whole.specs.Row.{padded};
 ghost use Rattle.answers.specs.Stages.{leavesBytes};
-ghost use Rattle.gauge.specs.Calls.{placeCall, feedCall, placeFile, feedFile, readState};
+ghost use Rattle.gauge.specs.OnGauges.{placeCall, feedCall, placeFile, feedFile, readState};
 ghost use Rattle.gauge_state.specs.Left.{leavesRow};
 ghost use Rattle.gauges.specs.Files.{Held};
 

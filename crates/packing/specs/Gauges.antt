@@ -10,7 +10,7 @@ use Rattle.rule.specs.Channel.{Channel}
 use Rattle.rule.specs.Refusals.{Outcome, refused, done, place, _>>=_, bufferLength, gaugesLength, gaugesValue, ninthGauge, offChannel, gaugeFull}
 use Rattle.rule.specs.Calls.{plainly, read}
 use Rattle.gauge.specs.State.{formed, free, placeable, placed, feedable, fed, readable, readings}
-use Rattle.gauge.specs.Calls.{placeFile, feedFile, readState}
+use Rattle.gauge.specs.OnGauges.{placeFile, feedFile, readState}
 use Rattle.gauge_state.specs.Done.{free-most}
 use Rattle.packing.specs.Small.{Small, Bounded, Counted, bounded-then, bounded-test, bounded-require, counted-then, called-small, uncounted-small}
 use Rattle.packing.specs.Answers.{read-bounded}

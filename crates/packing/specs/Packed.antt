@@ -8,7 +8,7 @@ use Rattle.rule.specs.declared.Answer.{Answer}
 use Rattle.rule.specs.Calls.{packed, checkFile, stepFile, filterFile, runForFile, makeFile}
 use Rattle.packing.specs.Small.{Small}
 use Rattle.rule.specs.Rows.{Row}
-use Rattle.gauge.specs.Calls.{placeFile, feedFile, readState}
+use Rattle.gauge.specs.OnGauges.{placeFile, feedFile, readState}
 use Rattle.packing.specs.Answers.{check-answer, step-answer, filter-answer, run-answer, make-answer}
 use Rattle.packing.specs.Gauges.{place-answer, feed-answer, read-answer}
 

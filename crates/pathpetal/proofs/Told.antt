@@ -6,7 +6,7 @@ use denote.Ref.{now}
 use denote.Triple.Clauses.{AtExit}
 use borrow.Fn.Kinds.{Dens, resT, endedOf}
 use Rattle.rule.specs.Calls.{checkFile, stepFile, filterFile, runForFile, makeFile}
-use Rattle.gauge.specs.Calls.{placeFile, feedFile, readState}
+use Rattle.gauge.specs.OnGauges.{placeFile, feedFile, readState}
 use Rattle.packing.specs.Packed.{unpacked, make-unpacked, check-unpacked, step-unpacked, filter-unpacked, run-unpacked, place-unpacked, feed-unpacked, read-unpacked}
 use Rattle.pathpetal.proofs.pathpetal_make.Kinds as make-kinds
 use Rattle.pathpetal.proofs.pathpetal_make.Reads as make-reads

@@ -2,7 +2,7 @@
 ghost use mathlib.Core.Path.{_≡_};
 ghost use Rattle.rule.specs.Calls.{packed, checkFile, stepFile, filterFile, runForFile, makeFile};
 ghost use Rattle.little.specs.Numbers.{AreBytes};
-ghost use Rattle.gauge.specs.Calls.{placeFile, feedFile, readState};
+ghost use Rattle.gauge.specs.OnGauges.{placeFile, feedFile, readState};
 
 // Makes the file of a channel with no step accepted.
 #[no_mangle]

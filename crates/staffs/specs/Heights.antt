@@ -26,7 +26,7 @@ use Rattle.checks.specs.Facts.{Depth}
 use Rattle.checks.specs.Allowed.{Allowed, allowed-of}
 use Rattle.gauge.specs.Gauge.{from, leastHeight}
 use Rattle.gauge.specs.State.{fed}
-use Rattle.gauge.specs.Calls.{feedCall}
+use Rattle.gauge.specs.OnGauges.{feedCall}
 use Rattle.staffs.specs.Staffs.{Staff, stateFor, longer}
 use Rattle.staffs.specs.Back.{Each}
 use Rattle.staffs.specs.Fed.{height, Proper, Takes, fed-staffs}
