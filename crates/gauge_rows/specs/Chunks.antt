@@ -11,7 +11,7 @@ use Rattle.rule.specs.Rows.{Row, map}
 use Rattle.rows.specs.All.{map-tab}
 use Rattle.gauge.specs.declared.Gauge.{Gauge}
 use Rattle.gauge.specs.State.{numbers, reading, gaugeAt, gaugesIn, flat, fedFrom}
-use Rattle.gauge_rows.specs.Stored.{stored, stored-then}
+use Rattle.little.specs.Written.{written, written-then}
 
 flat-snoc : (rows : List Row) (x : Row) → flat (rows ++ (x ∷ [])) ≡ flat rows ++ x
 unfolding flat
@@ -29,25 +29,25 @@ module _ (m : ℕ) (f : ℕ → Row) (long : (k : ℕ) → length (f k) ≡ m) w
 
   -- what a loop keeps that has filled the first k places, with `old` what the row was before
   pub record Chunked (old : Row) (k : ℕ) (out : Row) : Type 0 where
-    pub is : out ≡ stored old 0 (flat (tab k f))
+    pub is : out ≡ written old 0 (flat (tab k f))
 
   pub chunked-start : (old : Row) → Chunked old 0 old
-  unfolding stored flat tab
+  unfolding written flat tab
   chunked-start old = record { is = refl }
 
-  pub chunked-more : (old out out′ : Row) (k : ℕ) → Chunked old k out → out′ ≡ stored out (m * k) (f k) → Chunked old (k + 1) out′
+  pub chunked-more : (old out out′ : Row) (k : ℕ) → Chunked old k out → out′ ≡ written out (m * k) (f k) → Chunked old (k + 1) out′
   unfolding tab
   chunked-more old out out′ k c e =
       record {
         is =
             e
-            ∙ ap (λ t. stored t (m * k) (f k)) (c .is)
-            ∙ stored-then old 0 (flat (tab k f)) (f k) (m * k) (omega (arith, length-flat k)) (omega arith)
-            ∙ ap (stored old 0) (sym (flat-snoc (tab k f) (f k)) ∙ ap (λ n. flat (tab n f)) (sym (add-one k)));
+            ∙ ap (λ t. written t (m * k) (f k)) (c .is)
+            ∙ written-then old 0 (flat (tab k f)) (f k) (m * k) (omega (arith, length-flat k)) (omega arith)
+            ∙ ap (written old 0) (sym (flat-snoc (tab k f) (f k)) ∙ ap (λ n. flat (tab n f)) (sym (add-one k)));
       }
 
   pub chunked-end : (old out : Row) (k : ℕ) → Chunked old k out → length old ≡ m * k → out ≡ flat (tab k f)
-  unfolding stored
+  unfolding written
   chunked-end old out k c h =
       let n : length old ≤ 0 + length (flat (tab k f)) = omega (arith, h, length-flat k) in
       c .is ∙ ap (λ t. flat (tab k f) ++ t) (drop-of-length-le old n) ∙ append-nil (flat (tab k f))

@@ -1,4 +1,4 @@
 pub mod Passes
-pub mod Stored
+pub mod Twos
 pub mod Chunks
 pub mod Bounds

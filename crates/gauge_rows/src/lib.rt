@@ -10,7 +10,7 @@ ghost use Rattle.rule.specs.Rows.{map, all, lowest};
 ghost use Rattle.gauge.specs.Gauge.{right};
 ghost use Rattle.gauge.specs.State.{stateNumbers, readNumbers, numbers, gaugeAt, gaugesIn, flat, hasRoom, standsIn, fedFrom, reading};
 ghost use Rattle.gauge_rows.specs.Passes.{passes};
-ghost use Rattle.gauge_rows.specs.Stored.{stored};
+ghost use Rattle.little.specs.Written.{written};
 ghost use Rattle.gauge_rows.specs.Bounds.{Feeds, Reads};
 ghost use Rattle.gauge.specs.Small.{Small};
 
@@ -34,7 +34,7 @@ pub fn gauge_at(row: &[i64], k: usize) -> gauge::Gauge
 // Two numbers, in the entries from `at` on.
 fn put_two(row: &mut [i64], at: usize, a: i64, b: i64)
     requires { ⌜ at + 2 ≤ length (now row) ⌝ }
-    ensures { λ r. ⌜ now (row .exit) ≡ stored (now (row .entry)) at (a ∷ b ∷ []) ⌝ }
+    ensures { λ r. ⌜ now (row .exit) ≡ written (now (row .entry)) at (a ∷ b ∷ []) ⌝ }
 {
     row[at] = a;
     row[at + 1] = b;
@@ -43,7 +43,7 @@ fn put_two(row: &mut [i64], at: usize, a: i64, b: i64)
 // A gauge's numbers, in the eight entries from `at` on.
 pub fn put_gauge(row: &mut [i64], at: usize, g: gauge::Gauge)
     requires { ⌜ at + 8 ≤ length (now row) ⌝ }
-    ensures { λ r. ⌜ now (row .exit) ≡ stored (now (row .entry)) at (numbers g) ⌝ }
+    ensures { λ r. ⌜ now (row .exit) ≡ written (now (row .entry)) at (numbers g) ⌝ }
 {
     put_two(row, at, g.cell, g.fed);
     put_two(row, at + 2, g.last, g.crossings);
@@ -54,7 +54,7 @@ pub fn put_gauge(row: &mut [i64], at: usize, g: gauge::Gauge)
 // What is read of a gauge, in the six entries from `at` on.
 fn put_reading(row: &mut [i64], at: usize, g: gauge::Gauge)
     requires { ⌜ (at + 6 ≤ length (now row)) × Small g ⌝ }
-    ensures { λ r. ⌜ now (row .exit) ≡ stored (now (row .entry)) at (reading g) ⌝ }
+    ensures { λ r. ⌜ now (row .exit) ≡ written (now (row .entry)) at (reading g) ⌝ }
 {
     put_two(row, at, g.cell, g.fed);
     put_two(row, at + 2, g.crossings, gauge::waves(g));

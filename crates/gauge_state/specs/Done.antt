@@ -26,7 +26,7 @@ use Rattle.gauge.specs.declared.Gauge.{Gauge}
 use Rattle.gauge.specs.Gauge.{gaugeOf}
 use Rattle.gauge.specs.State.{stateLength, stateNumbers, readNumbers, numbers, reading, gaugeAt, gaugesIn, flat, stateRow, gaugesOf, stateOf, formed, taken, free, withGauge, placeable, placed, fedFrom, feedable, fed, readable, readings}
 use Rattle.gauge.specs.OnGauges.{readState}
-use Rattle.gauge_rows.specs.Stored.{stored, length-stored}
+use Rattle.little.specs.Written.{length-written}
 use Rattle.gauge_rows.specs.Chunks.{long-numbers, fedPlace, long-fed, fed-all, length-flat}
 use Rattle.gauge_state.specs.Left.{leavesRow}
 use Rattle.gauge_state.specs.Order.{placeable-outside, place-passed, feedable-outside, readable-outside}
@@ -94,9 +94,9 @@ pub free-most : (s : List ℕ) → free s ≤ 8
 unfolding free gaugesOf gaugesIn
 free-most s = let h = lowest-most taken (tab 8 (gaugeAt (stateRow s))) in omega (arith, h, length-tab 8 (gaugeAt (stateRow s)))
 
-pub with-is : (row : Row) (k : ℕ) (g : Gauge) → stored row (8 * k) (numbers g) ≡ withGauge row k g
-unfolding stored withGauge numbers
+pub with-is : (row : Row) (k : ℕ) (g : Gauge) → written row (8 * k) (numbers g) ≡ withGauge row k g
+unfolding written withGauge numbers
 with-is row k g = refl
 
-pub length-with : (row : Row) (at : ℕ) (g : Gauge) → at + 8 ≤ length row → length (stored row at (numbers g)) ≡ length row
-length-with row at g h = length-stored row at (numbers g) (omega (arith, long-numbers g))
+pub length-with : (row : Row) (at : ℕ) (g : Gauge) → at + 8 ≤ length row → length (written row at (numbers g)) ≡ length row
+length-with row at g h = length-written row at (numbers g) (omega (arith, long-numbers g))

@@ -7,7 +7,7 @@ use lib.ListN.{length}
 use Rattle.whole.specs.Row.{tab}
 use Rattle.gauge.specs.Gauge.{right}
 use Rattle.gauge.specs.State.{numbers, gaugeAt, flat, standsIn, fedFrom}
-use Rattle.gauge_rows.specs.Stored.{stored}
+use Rattle.little.specs.Written.{written}
 use Rattle.gauge_rows.specs.Bounds.{at-place}
 use Rattle.gauge_rows.specs.Chunks.{fedPlace, long-fed, fed-all, Chunked, chunked-start, chunked-more, chunked-end}
 use Rattle.gauge_rows.proofs.feed.Statement.{statement}
@@ -57,7 +57,7 @@ loop-again c =
     let s = l .before .before in
     let a = s .args in
     let k = l .before .loop .k in
-    let e = p .put-gauge .ensures ∙ ap (λ g. stored (l .before .loop .out) (8 * k) (numbers g)) (f .fed-from .ensures ∙ ap (fedFrom (a .e .now)) (f .before .gauge-at .ensures)) in
+    let e = p .put-gauge .ensures ∙ ap (λ g. written (l .before .loop .out) (8 * k) (numbers g)) (f .fed-from .ensures ∙ ap (fedFrom (a .e .now)) (f .before .gauge-at .ensures)) in
     (omega arith, omega arith, chunked-more 8 (fedPlace (a .e .now) (a .row .now)) (long-fed (a .e .now) (a .row .now)) (a .out .now) (l .before .loop .out) (p .put-gauge .last .0) k (l .before .loop .inv .2) e)
 
 same-length : tie.Need-same-length Inv-loop μ-loop

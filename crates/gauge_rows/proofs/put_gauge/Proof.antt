@@ -8,7 +8,8 @@ use lib.ListN.{length}
 use mir.Syntax.{w64}
 use mir.ValLaws.{toZ-ofZ}
 use Rattle.gauge.specs.State.{numbers}
-use Rattle.gauge_rows.specs.Stored.{stored, stored-more}
+use Rattle.little.specs.Written.{written}
+use Rattle.gauge_rows.specs.Twos.{two-more}
 use Rattle.gauge_rows.proofs.put_gauge.Statement.{statement}
 use Rattle.gauge_rows.proofs.put_gauge.Tie as tie
 
@@ -48,10 +49,10 @@ returns c =
     let row = s .args .row .now in
     let at = s .args .at in
     let h : at ≤ length row = omega (arith, s .pre) in
-    let e2 = stored-more row (p1 .put-two .last .0) at _ _ _ (at + 2) (p2 .put-two2 .last .0) (p1 .put-two .ensures) refl h (p2 .put-two2 .ensures) in
-    let e3 = stored-more row (p2 .put-two2 .last .0) at _ _ _ (at + 4) (p3 .put-two3 .last .0) e2 refl h (p3 .put-two3 .ensures) in
-    stored-more row (p3 .put-two3 .last .0) at _ _ _ (at + 6) (p4 .put-two4 .last .0) e3 refl h (p4 .put-two4 .ensures)
-    ∙ (λ i. stored row at (
+    let e2 = two-more row (p1 .put-two .last .0) at _ _ _ (at + 2) (p2 .put-two2 .last .0) (p1 .put-two .ensures) refl h (p2 .put-two2 .ensures) in
+    let e3 = two-more row (p2 .put-two2 .last .0) at _ _ _ (at + 4) (p3 .put-two3 .last .0) e2 refl h (p3 .put-two3 .ensures) in
+    two-more row (p3 .put-two3 .last .0) at _ _ _ (at + 6) (p4 .put-two4 .last .0) e3 refl h (p4 .put-two4 .ensures)
+    ∙ (λ i. written row at (
     toZ-ofZ w64 (g .cell) (sfits-of (p1 .before .before .struct-told .given .0 .1)) i
     ∷ toZ-ofZ w64 (g .fed) (sfits-of (p1 .before .struct-told2 .given .1 .0 .1)) i
     ∷ toZ-ofZ w64 (g .last) (sfits-of (p2 .before .before .struct-told3 .given .1 .1 .0 .1)) i

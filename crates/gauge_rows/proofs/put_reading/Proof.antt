@@ -9,7 +9,8 @@ use mir.Syntax.{w64}
 use mir.ValLaws.{toZ-ofZ}
 use Rattle.whole.specs.Expr.{back}
 use Rattle.gauge.specs.State.{reading}
-use Rattle.gauge_rows.specs.Stored.{stored, stored-more}
+use Rattle.little.specs.Written.{written}
+use Rattle.gauge_rows.specs.Twos.{two-more}
 use Rattle.gauge_rows.proofs.put_reading.Statement.{statement}
 use Rattle.gauge_rows.proofs.put_reading.Tie as tie
 
@@ -47,9 +48,9 @@ returns c =
     let row = s .args .row .now in
     let at = s .args .at in
     let h : at ≤ length row = omega (arith, s .pre .0) in
-    let e2 = stored-more row (p1 .put-two .last .0) at _ _ _ (at + 2) (p2 .put-two2 .last .0) (p1 .put-two .ensures) refl h (p2 .put-two2 .ensures) in
-    stored-more row (p2 .put-two2 .last .0) at _ _ _ (at + 4) (p3 .put-two3 .last .0) e2 refl h (p3 .put-two3 .ensures)
-    ∙ (λ i. stored row at (
+    let e2 = two-more row (p1 .put-two .last .0) at _ _ _ (at + 2) (p2 .put-two2 .last .0) (p1 .put-two .ensures) refl h (p2 .put-two2 .ensures) in
+    two-more row (p2 .put-two2 .last .0) at _ _ _ (at + 4) (p3 .put-two3 .last .0) e2 refl h (p3 .put-two3 .ensures)
+    ∙ (λ i. written row at (
     back (g .cell) 256 (q .cell) tt i
     ∷ back (g .fed) 1_000_000 (q .fed) tt i
     ∷ back (g .crossings) 500_000 (q .crossings) tt i

@@ -6,7 +6,7 @@ use borrow.Author.Needs.{needs}
 use lib.ListN.{length-set}
 use mir.Syntax.{w64}
 use mir.ValLaws.{toZ-ofZ}
-use Rattle.gauge_rows.specs.Stored.{stored, stored-two}
+use Rattle.little.specs.Written.{written, written-two}
 use Rattle.gauge_rows.proofs.put_two.Statement.{statement}
 use Rattle.gauge_rows.proofs.put_two.Tie as tie
 
@@ -31,8 +31,8 @@ same-length c = search needs
 returns : tie.Need-returns
 returns c =
     let s = c .args in
-    stored-two (s .row .now) (s .at) _ _ (omega arith)
-    ∙ (λ i. stored (s .row .now) (s .at) (toZ-ofZ w64 (s .a) (c .fits .a) i ∷ toZ-ofZ w64 (s .b) (c .fits .b) i ∷ []))
+    written-two (s .row .now) (s .at) _ _ (omega arith)
+    ∙ (λ i. written (s .row .now) (s .at) (toZ-ofZ w64 (s .a) (c .fits .a) i ∷ toZ-ofZ w64 (s .b) (c .fits .b) i ∷ []))
 
 pub put-two-spec : {M : Type 1} → statement M
 put-two-spec =

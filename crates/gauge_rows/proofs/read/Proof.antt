@@ -7,7 +7,7 @@ use lib.ListN.{length}
 use Rattle.whole.specs.Row.{tab}
 use Rattle.gauge.specs.Gauge.{right}
 use Rattle.gauge.specs.State.{reading, gaugeAt, flat}
-use Rattle.gauge_rows.specs.Stored.{stored}
+use Rattle.little.specs.Written.{written}
 use Rattle.gauge_rows.specs.Bounds.{at-place, right-small}
 use Rattle.gauge_rows.specs.Chunks.{readPlace, long-read, read-all, Chunked, chunked-start, chunked-more, chunked-end}
 use Rattle.gauge_rows.proofs.read.Statement.{statement}
@@ -51,7 +51,7 @@ loop-again c =
     let l = g .before .before in
     let a = l .before .before .args in
     let k = l .before .loop .k in
-    let e = p .put-reading .ensures ∙ ap (λ g. stored (l .before .loop .out) (6 * k) (reading g)) (g .gauge-at .ensures) in
+    let e = p .put-reading .ensures ∙ ap (λ g. written (l .before .loop .out) (6 * k) (reading g)) (g .gauge-at .ensures) in
     (omega arith, omega arith, chunked-more 6 (readPlace (a .row .now)) (long-read (a .row .now)) (a .out .now) (l .before .loop .out) (p .put-reading .last .0) k (l .before .loop .inv .2) e)
 
 same-length : tie.Need-same-length Inv-loop μ-loop

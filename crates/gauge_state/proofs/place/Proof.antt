@@ -15,7 +15,7 @@ use Rattle.gauge.specs.declared.Gauge.{Gauge}
 use Rattle.gauge.specs.Gauge.{gaugeOf}
 use Rattle.gauge.specs.State.{stateLength, stateNumbers, numbers, gaugesIn, gaugesOf, stateRow, placeable, taken, free, withGauge}
 use Rattle.gauge_rows.specs.Passes.{passes}
-use Rattle.gauge_rows.specs.Stored.{stored}
+use Rattle.little.specs.Written.{written}
 use Rattle.gauge_state.specs.Order.{form-passed, place-passed}
 use Rattle.gauge_state.specs.Done.{length-state, all-written, length-with, with-is, free-least, free-most, cell-most, place-refused, place-accepted}
 use Rattle.gauge_state.proofs.place.Statement.{statement}
@@ -118,7 +118,7 @@ returns-2 c =
     let free = free-is f in
     let row =
     p .put-gauge .ensures
-    ∙ (λ i. stored (o .opened .ensures i) (8 * (free i - 1)) (numbers (p .before .fresh .ensures i)))
+    ∙ (λ i. written (o .opened .ensures i) (8 * (free i - 1)) (numbers (p .before .fresh .ensures i)))
     ∙ with-is (stateRow s) _ (gaugeOf (pos (a .cell)) []) in
     (λ i. leavesBytes ((c .accepted .ensures ∙ ap acceptance free) i) (w .write-row8 .last .0))
     ∙ place-accepted (a .n) (a .cell) s (w .write-row8 .last .0) (passed e)
