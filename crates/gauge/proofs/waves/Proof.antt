@@ -1,5 +1,6 @@
 -- `gauge::waves` meets its contract. Assumes nothing.
 use mathlib.Core.Path.{_≡_, sym, _∙_, ap}
+use borrow.Author.Needs.{needs}
 use lib.IntN.{pos}
 use lib.Signed.{ltZ}
 use Rattle.whole.specs.Expr.{E, var, lit, sub, back, need, rd-is}
@@ -12,8 +13,12 @@ use Rattle.gauge.proofs.waves.Tie as tie
 abbrev fewer : (g : Gauge) → Small g → E
 fewer g p = sub (var (g .crossings) 500_000 (p .crossings)) (lit (pos 1))
 
+-- nothing wraps where none or one is taken away: which one it must be is for the contract to say
 sub-result : tie.Need-sub-result
-sub-result c = let s = c .before .before .before .before .before in need (fewer (s .args .g) (s .pre)) tt
+sub-result c =
+    let s = c .before .before .before .before .before in
+    let crossings = var (s .args .g .crossings) 500_000 (s .pre .crossings) in
+    search (needs, need (sub crossings (lit (pos 1))) tt, need (sub crossings (lit (pos 0))) tt)
 
 returns : tie.Need-returns
 returns c =

@@ -43,19 +43,19 @@ cast-grown c =
     subst (λ (v : ℤ). T (nonNeg v) × Fits w64 (natAbs v)) (sym (cell-is e)) (tt, record { fits = omega (arith, right-small (s .args .g) (s .pre .0) .cell) })
 
 sub-grown : tie.Need-sub-grown
-sub-grown c = let e = c .before .before in subst (λ (v : ℤ). 1 ≤ natAbs v) (sym (cell-is e)) (there e .least)
+sub-grown c = let e = c .before .before in omega (arith, ap natAbs (cell-is e), there e .least)
 
 mul-grown : tie.Need-mul-grown
 mul-grown c =
     let e = c .before .before in
     let s = e .before .before in
-    subst (λ (v : ℤ). Fits w64 ((natAbs v - 1) * 8)) (sym (cell-is e)) (record { fits = omega (arith, right-small (s .args .g) (s .pre .0) .cell) })
+    record { fits = omega (arith, ap natAbs (cell-is e), right-small (s .args .g) (s .pre .0) .cell) }
 
 shared-slice-copy-out-grown : tie.Need-shared-slice-copy-out-grown
 shared-slice-copy-out-grown c =
     let e = c .before .before in
     let t = there e in
-    subst (λ (v : ℤ). natAbs v - 1 < length (e .before .before .args .e .now)) (sym (cell-is e)) (omega (arith, t .least, t .most))
+    omega (arith, ap natAbs (cell-is e), t .least, t .most)
 
 -- the height at its cell, as the machine reads it back
 height-is : (c : tie.After-grown-arg) → let a = c .before .before .before .before .before .args in toZ w64 (ofZ w64 (cell (a .e .now) (natAbs (toZ w64 (ofZ w64 (a .g .cell))) - 1))) ≡ cell (a .e .now) (natAbs (a .g .cell) - 1)
