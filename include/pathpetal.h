@@ -28,16 +28,18 @@
    gauge, in eight numbers of 8 bytes, little-endian and signed:
      cell       1 to 256
      fed        how many heights it was fed, 0 to 1,000,000
-     last       the last of them in um, -19,999,000 to 20,000,000; 0 before the first
+     last       the last of them in um, -19,999,000 to 20,000,000
      crossings  how many of them were zero or more directly after one below zero: twice that, and one more where
                 the last is below zero, is at most `fed`
-     highest    the highest since the last crossing, in the range of `last`; 0 before the first crossing
-     lowest     the lowest since then, in that range and not above the highest; 0 before the first crossing
+     highest    the highest since the last crossing, in the range of `last`
+     lowest     the lowest since then, in that range and not above the highest
      largest    the largest height of a complete wave in um, 0 to 39,999,000; 0 while there is none
      sum        of the heights of all complete waves, from `largest` to 39,999,000 times their number
    A wave runs from one crossing up to, not including, the next; its height is the highest fed in it minus the
    lowest. What came before the first crossing, and what came since the last, is no complete wave. A number out of
-   its range is refused with 14; what these ranges cannot tell from a gauge that was fed is taken as it stands.
+   its range is refused with 14; what these ranges cannot tell from a gauge that was fed is taken as it stands. The
+   calls leave `last` 0 before the first height, and `highest` and `lowest` 0 before the first crossing. To take a
+   gauge away, set its 64 bytes to zero.
 
    C99 and C++. Link with libpathpetal.a. Calls may run at the same time on different bytes. The strings of one call
    must not overlap, but rows that are only read may be the same one. A string of length 0 may be NULL. A call needs
@@ -117,11 +119,22 @@ uint64_t pathpetal_filter(uint8_t *file, size_t file_len);
 uint64_t pathpetal_run(uint8_t *file, size_t file_len, uint64_t most);
 
 /* Gauges: what is counted is proved of the whole record of heights that a gauge was fed. A host feeds them once after
-   each accepted step; what it does not feed is not counted, and a step that is refused feeds nothing. No call alters
-   the channel file. It may be complete, and a state may be fed by one channel after another. */
+   each accepted step, so it takes steps one at a time (pathpetal_step, or pathpetal_run with most 1), and does not feed
+   a step that was refused; what it does not feed is not counted. No call alters the channel file. It may be complete,
+   and a state may be fed by one channel after another. 12 and 14 are of the gauges where pathpetal_check takes the
+   file. */
 enum {
     PATHPETAL_GAUGES_LENGTH = 512, /* bytes of the gauges */
-    PATHPETAL_READINGS = 48        /* numbers that are read of them */
+    PATHPETAL_READINGS = 48        /* numbers that are read of them: eight times the six below */
+};
+enum pathpetal_reading {
+    PATHPETAL_READ_CELL,      /* counted from 1; 0 where there is no gauge */
+    PATHPETAL_READ_FED,       /* heights */
+    PATHPETAL_READ_CROSSINGS,
+    PATHPETAL_READ_WAVES,     /* complete ones */
+    PATHPETAL_READ_LARGEST,   /* height of one, um */
+    PATHPETAL_READ_SUM,       /* of the heights of all, um */
+    PATHPETAL_READ_NUMBERS    /* of one gauge */
 };
 
 /* Places a gauge at a cell, counted from 1, in the first place that is empty. Two may stand at one cell. Refused as by

@@ -3,7 +3,7 @@
 // The calls of pathpetal.h over the WebAssembly file pathpetal.wasm, with no other dependency. A channel lives in the
 // bytes of its file, a Uint8Array of 24 + 64 * cells bytes, and nowhere else: nothing is kept between calls.
 //
-//     import { load, row, Refusal } from './pathpetal.mjs';
+//     import { load, row, GAUGES_LENGTH, Refusal } from './pathpetal.mjs';
 //     const pathpetal = await load();                     // pathpetal.wasm beside this module
 //     const file = pathpetal.make({
 //         cells: 8, widthMm: 500, stepMs: 20, wanted: 100,
@@ -15,11 +15,13 @@
 //     if (!answer.complete) console.log(answer.words);
 //
 // Gauges count the waves at marked cells. They live beside the file, in bytes of their own that are all zeros at first,
-// and are fed once after each accepted step; so a run that feeds them allows one step a call:
+// and are fed once after each accepted step. So in the place of the run above, with one step a call:
 //
 //     const gauges = new Uint8Array(GAUGES_LENGTH);
 //     pathpetal.placeGauge(file, gauges, 3);                                        // at cell 3, counted from 1
-//     while (pathpetal.run(file, 1).count === 1) pathpetal.feedGauges(file, gauges);
+//     let answer = pathpetal.run(file, 1);
+//     for (; answer.count === 1; answer = pathpetal.run(file, 1)) pathpetal.feedGauges(file, gauges);
+//     if (!answer.complete) console.log(answer.words);
 //     for (const { cell, waves, largestUm } of pathpetal.readGauges(gauges)) console.log(cell, waves, largestUm);
 //
 // Every call ends in the rule's result or in one numbered refusal, and a refused call leaves every byte of the

@@ -97,7 +97,7 @@ unfolding gaugeFor longer
 fed-for e free p = fed-empty e none empty-is
 fed-for e (staff j r) p = fed-gauge e (gaugeOf (pos j) r) (not-empty j r (p .0)) ∙ at-cell e j r
 
-each-of : (P Q : Staff → Type 0) → ((s : Staff) → P s → Q s) → (ss : List Staff) → Each P ss → Each Q ss
+pub each-of : (P Q : Staff → Type 0) → ((s : Staff) → P s → Q s) → (ss : List Staff) → Each P ss → Each Q ss
 each-of P Q h [] e = tt
 each-of P Q h (s ∷ ss) e = (h s (e .0), each-of P Q h ss (e .1))
 
@@ -194,7 +194,7 @@ proper-longer e k t (staff j r) p =
     let a = p .0 in
     (a .0, (a .1 .0, (omega (arith, length-append r (x ∷ []), p .1 .1), all-append height r (x ∷ []) (a .1 .1 .1) (and-yes (height x) true (cell-height e (j - 1) t (omega (arith, a .0, p .1 .0))) refl))))
 
-takes-longer : (e : Row) (n k : ℕ) (s : Staff) → Takes n (suc k) s → Takes n k (longer e s)
+pub takes-longer : (e : Row) (n k : ℕ) (s : Staff) → Takes n (suc k) s → Takes n k (longer e s)
 unfolding longer
 takes-longer e n k free p = tt
 takes-longer e n k (staff j r) p = (p .0, omega (arith, length-append r (cell e (j - 1) ∷ []), p .1))
@@ -207,15 +207,20 @@ each-both : (P Q : Staff → Type 0) (ss : List Staff) → Each P ss → Each Q 
 each-both P Q [] a b = tt
 each-both P Q (s ∷ ss) a b = ((a .0, b .0), each-both P Q ss (a .1) (b .1))
 
-map-followed : (e : Row) (es : List Row) (ss : List Staff) → map (followed es) (map (longer e) ss) ≡ map (followed (e ∷ es)) ss
+pub map-followed : (e : Row) (es : List Row) (ss : List Staff) → map (followed es) (map (longer e) ss) ≡ map (followed (e ∷ es)) ss
 unfolding map followed
 map-followed e es [] = refl
 map-followed e es (s ∷ ss) = ap (λ t. followed es (longer e s) ∷ t) (map-followed e es ss)
 
-map-none : (ss : List Staff) → map (followed []) ss ≡ ss
+pub map-none : (ss : List Staff) → map (followed []) ss ≡ ss
 unfolding map followed
 map-none [] = refl
 map-none (s ∷ ss) = ap (λ t. s ∷ t) (map-none ss)
+
+-- staffs that are fed stay as they can be
+pub fed-proper : (e : Row) (k : ℕ) (ss : List Staff) → all height e ≡ true → Each Proper ss → Each (Takes (length e) (suc k)) ss → Each Proper (map (longer e) ss)
+fed-proper e k ss t proper takes =
+    each-map (longer e) (λ s. Proper s × Takes (length e) (suc k) s) Proper (proper-longer e k t) ss (each-both Proper (Takes (length e) (suc k)) ss proper takes)
 
 -- one row of heights after the other
 pub feeds-staffs : (n : ℕ) (es : List Row) (ss : List Staff) → Rows n es → length ss ≡ 8 → Each Proper ss → Each (Takes n (length es)) ss → feeds es (stateFor ss) ≡ done (stateFor (map (followed es) ss))
@@ -226,7 +231,7 @@ feeds-staffs n (e ∷ es) ss rows long proper takes =
     let here : Each (Takes (length e) (suc (length es))) ss = rw is takes in
     after-done (fed e (stateFor ss)) (stateFor (map (longer e) ss)) _ (fed-staffs ss long proper e (length es) here)
     ∙ feeds-staffs n es (map (longer e) ss) (rows .1) (length-map (longer e) ss ∙ long)
-    (each-map (longer e) (λ s. Proper s × Takes (length e) (suc (length es)) s) Proper (proper-longer e (length es) (rows .0 .1)) ss (each-both Proper (Takes (length e) (suc (length es))) ss proper here))
+    (fed-proper e (length es) ss (rows .0 .1) proper here)
     (each-map (longer e) (Takes n (suc (length es))) (Takes n (length es)) (takes-longer e n (length es)) ss takes)
     ∙ ap (λ t. done (stateFor t)) (map-followed e es ss)
 

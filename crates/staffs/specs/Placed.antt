@@ -91,7 +91,7 @@ module _ (before after : List Staff) (full : Each Taken before) (long : length (
   unfolding map gaugeFor
   split = map-append gaugeFor before (staffs.free ∷ after)
 
-  free-is : free (stateFor every) ≡ suc (length before)
+  pub free-is : free (stateFor every) ≡ suc (length before)
   unfolding free lowest gaugeFor
   free-is =
       let m : length (map gaugeFor before) ≡ length before = length-map gaugeFor before in
