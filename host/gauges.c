@@ -110,15 +110,23 @@ void gauges_keep(const struct gauges *gauges, struct gauge *kept)
     }
 }
 
-/* Whether the steps that are noted of a gauge can be those of its crossings. The first height that it was fed is none,
-   and a height below zero lies between two of them. */
-static bool can_be(const struct noted *noted, const int64_t *read, int64_t placed, int64_t step)
+/* Whether a gauge's numbers, which the library takes, and the steps that are noted of it can be those of one that was
+   fed. The first height that it was fed is no crossing; a height below zero lies between two, so that no wave has the
+   height 0; and the last height is one of those since the last crossing. */
+static bool can_be(const struct gauge *kept, const int64_t *read, int64_t placed, int64_t step)
 {
-    if (read[READ_CROSSINGS] == 0 ? noted->crossed != 0 : noted->crossed < placed + 2 || noted->crossed > step)
+    const struct noted *noted = &kept->noted;
+    int64_t last = kept->numbers[GAUGE_LAST], highest = kept->numbers[GAUGE_HIGHEST];
+    int64_t lowest = kept->numbers[GAUGE_LOWEST], waves = read[READ_WAVES];
+    if (read[READ_CROSSINGS] == 0)
+        return noted->crossed == 0 && noted->from == 0 && noted->to == 0 && highest == 0 && lowest == 0;
+    if (noted->crossed < placed + 2 || noted->crossed + (last < 0) > step || highest < 0 || lowest > last ||
+        last > highest)
         return false;
-    if (read[READ_WAVES] == 0)
+    if (waves == 0)
         return noted->from == 0 && noted->to == 0;
-    return noted->from >= placed + 2 && noted->to >= noted->from + 2 && noted->to <= noted->crossed;
+    return noted->from >= placed + 2 && noted->to >= noted->from + 2 && noted->to <= noted->crossed &&
+           read[READ_LARGEST] >= 1 && read[READ_SUM] <= read[READ_LARGEST] * waves;
 }
 
 bool gauges_take(struct gauges *gauges, const struct gauge *kept, const size_t *cells, size_t count,
@@ -141,8 +149,8 @@ bool gauges_take(struct gauges *gauges, const struct gauge *kept, const size_t *
     for (size_t k = 0; k < count; k++) {
         const int64_t *read = gauges->readings + k * READ_NUMBERS;
         if (read[READ_CELL] != (int64_t)cells[k] + 1 || read[READ_FED] != fed ||
-            (fed > 0 && kept[k].numbers[GAUGE_LAST] != pathpetal_height_um(file, cells[k])) ||
-            !can_be(&gauges->noted[k], read, gauges->placed, step))
+            kept[k].numbers[GAUGE_LAST] != (fed > 0 ? pathpetal_height_um(file, cells[k]) : 0) ||
+            !can_be(&kept[k], read, gauges->placed, step))
             return false;
     }
     return true;

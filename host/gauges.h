@@ -10,7 +10,9 @@
 enum {
     GAUGE_NUMBERS = 8,                                      /* of one gauge, in the order of pathpetal.h: */
     GAUGE_FED = 1,                                          /* this one is how many heights it was fed, */
-    GAUGE_LAST = 2,                                         /* and this the last of them */
+    GAUGE_LAST = 2,                                         /* this the last of them, */
+    GAUGE_HIGHEST = 4,                                      /* and these the highest and lowest since a crossing */
+    GAUGE_LOWEST = 5,
     GAUGE_LENGTH = 8 * GAUGE_NUMBERS,                       /* its bytes */
     GROUP_GAUGES = PATHPETAL_GAUGES_LENGTH / GAUGE_LENGTH,  /* gauges of one group */
     GROUPS = (CELLS_MOST + GROUP_GAUGES - 1) / GROUP_GAUGES /* a gauge for each cell, and no more */
@@ -58,7 +60,8 @@ uint64_t gauges_feed(struct gauges *gauges, const uint8_t *file);
 void gauges_keep(const struct gauges *gauges, struct gauge *kept);
 
 /* Takes gauges that were kept with a channel; whether they are such as stand at these cells, were fed after every step
-   since they were placed, the channel's own heights last, and are taken by the library. */
+   since they were placed, the channel's own heights last, are taken by the library, and have counts and noted steps
+   that agree. */
 bool gauges_take(struct gauges *gauges, const struct gauge *kept, const size_t *cells, size_t count,
                  const uint8_t *file);
 

@@ -50,9 +50,9 @@ size_t take_head(const char *lines, struct head *head)
 
 void put_waves(struct text *text, const struct waves *waves)
 {
-    text_add(text, "# cell %" PRId64 ": %" PRId64 " heights from step %" PRId64 ", %" PRId64 " waves, largest %" PRId64
-             " um, sum %" PRId64 " um", waves->cell, waves->fed, waves->first, waves->count, waves->largest,
-             waves->sum);
+    text_add(text, "# cell %" PRId64 ": %" PRId64 " height%s from step %" PRId64 ", %" PRId64 " wave%s, largest "
+             "%" PRId64 " um, sum %" PRId64 " um", waves->cell, waves->fed, waves->fed == 1 ? "" : "s", waves->first,
+             waves->count, waves->count == 1 ? "" : "s", waves->largest, waves->sum);
     if (waves->count > 0)
         text_add(text, ", noted from step %" PRId64 " to step %" PRId64, waves->from, waves->to);
     text_add(text, "\n");
@@ -64,9 +64,10 @@ bool take_waves(const char *line, struct waves *waves)
     bool same;
     int read;
     *waves = (struct waves){.cell = 0};
-    read = sscanf(line, "# cell %7" SCNd64 ": %7" SCNd64 " heights from step %7" SCNd64 ", %7" SCNd64 " waves, largest "
-                  "%8" SCNd64 " um, sum %14" SCNd64 " um, noted from step %7" SCNd64 " to step %7" SCNd64, &waves->cell,
-                  &waves->fed, &waves->first, &waves->count, &waves->largest, &waves->sum, &waves->from, &waves->to);
+    read = sscanf(line, "# cell %7" SCNd64 ": %7" SCNd64 " %*[heigts] from step %7" SCNd64 ", %7" SCNd64 " %*[waves], "
+                  "largest %8" SCNd64 " um, sum %14" SCNd64 " um, noted from step %7" SCNd64 " to step %7" SCNd64,
+                  &waves->cell, &waves->fed, &waves->first, &waves->count, &waves->largest, &waves->sum, &waves->from,
+                  &waves->to);
     if (read != 6 && read != 8)
         return false;
     put_waves(&again, waves);

@@ -186,45 +186,65 @@ static void staff_line(struct text *svg, const struct axis *across, const struct
     svg_line_end(svg);
 }
 
-/* The time that the largest wave at a staff took, shaded; as much of it as lies between the first row and the last, and
-   wide enough to be seen. */
-static void largest_wave(struct text *svg, const struct axis *across, const struct axis *up,
+/* Whether the waves are counted, and the rows tell the time of a step. */
+static bool timed_waves(const struct staffs *staffs)
+{
+    return staffs->counted && staffs->step_ms > 0;
+}
+
+/* The time of the rows, s; where waves are shaded that of all steps that they are counted of, for the largest may run
+   before the first row or after the last. */
+static struct axis time_axis(const struct staffs *staffs)
+{
+    int64_t from = staffs->times[0], to = staffs->times[staffs->rows - 1];
+    if (timed_waves(staffs)) {
+        from = (staffs->waves[0].first - 1) * staffs->step_ms;
+        to = (int64_t)staffs->accepted * staffs->step_ms;
+    }
+    return axis_for((double)from / 1000.0, (double)to / 1000.0, LEFT, RIGHT, 15, false);
+}
+
+/* The time that the largest wave at a staff took, shaded wide enough to be seen; whether there is one. */
+static bool largest_wave(struct text *svg, const struct axis *across, const struct axis *up,
                          const struct staffs *staffs, size_t staff)
 {
     const struct waves *waves = &staffs->waves[staff];
     double from = on_axis(across, (double)(waves->from * staffs->step_ms) / 1000.0);
     double to = on_axis(across, (double)(waves->to * staffs->step_ms) / 1000.0);
-    if (waves->count == 0 || staffs->step_ms == 0)
-        return;
-    from = from < across->start ? across->start : from > across->end - 2 ? across->end - 2 : from;
-    to = to > across->end ? across->end : to < from + 2 ? from + 2 : to;
+    if (waves->count == 0 || !timed_waves(staffs))
+        return false;
+    from = from > across->end - 2 ? across->end - 2 : from;
+    to = to < from + 2 ? from + 2 : to;
     text_add(svg, "<rect class=\"largest\" x=\"%.1f\" y=\"%.1f\" width=\"%.1f\" height=\"%.1f\"/>\n", from, up->end,
              to - from, up->start - up->end);
+    return true;
 }
 
 /* What is said of waves, under all panels. */
-static void waves_key(struct text *svg, double y, const struct staffs *staffs)
+static void waves_key(struct text *svg, double y, const struct staffs *staffs, bool shaded)
 {
     char words[256];
-    text_add(svg, "<rect class=\"largest\" x=\"%d\" y=\"%.1f\" width=\"36\" height=\"12\"/>\n", LEFT, y - 10);
-    svg_words(svg, LEFT + 44, y, "", "when the largest wave was (noted by the host)");
+    if (shaded) {
+        text_add(svg, "<rect class=\"largest\" x=\"%d\" y=\"%.1f\" width=\"36\" height=\"12\"/>\n", LEFT, y - 10);
+        svg_words(svg, LEFT + 44, y, "", "when the largest wave was (noted by the host)");
+    }
     snprintf(words, sizeof words, "waves by the proved counts of %s", fed_words(staffs).text);
     svg_words(svg, RIGHT, y, "right", words);
 }
 
 void draw_staffs(struct text *svg, const char *name, const struct staffs *staffs)
 {
-    double lowest = 0, highest = 0, from = (double)staffs->times[0] / 1000.0;
-    double to = (double)staffs->times[staffs->rows - 1] / 1000.0;
-    double tall = staffs->count == 1 ? 2 * STAFF_TALL : STAFF_TALL, below;
-    struct axis across = axis_for(from, to, LEFT, RIGHT, 15, false);
+    double lowest = 0, highest = 0, tall = staffs->count == 1 ? 2 * STAFF_TALL : STAFF_TALL, below;
+    struct axis across = time_axis(staffs);
+    bool shaded = false;
     char about[128];
     for (size_t k = 0; k < staffs->rows * staffs->count; k++) {
         lowest = mm(staffs->heights[k]) < lowest ? mm(staffs->heights[k]) : lowest;
         highest = mm(staffs->heights[k]) > highest ? mm(staffs->heights[k]) : highest;
     }
-    snprintf(about, sizeof about, "%s to %s s, %s rows", THOUSANDTHS(staffs->times[0]),
-             THOUSANDTHS(staffs->times[staffs->rows - 1]), GROUPED((int64_t)staffs->rows));
+    snprintf(about, sizeof about, "%s to %s s, %s row%s", THOUSANDTHS(staffs->times[0]),
+             THOUSANDTHS(staffs->times[staffs->rows - 1]), GROUPED((int64_t)staffs->rows),
+             staffs->rows == 1 ? "" : "s");
     below = 96 + (double)staffs->count * (tall + STAFF_APART) + 30;
     svg_begin(svg, WIDTH, below + (staffs->counted ? STAFF_APART : 0));
     head(svg, name, staffs_standing(staffs).text, staffs->whole == RECORD_COMPLETE, about);
@@ -235,7 +255,7 @@ void draw_staffs(struct text *svg, const char *name, const struct staffs *staffs
         snprintf(title, sizeof title, "Staff at cell %u", (unsigned)staffs->cells[k]);
         if (staffs->counted) {
             svg_words(svg, RIGHT, top - 9, "right", waves_words(&staffs->waves[k], true).text);
-            largest_wave(svg, &across, &up, staffs, k);
+            shaded = largest_wave(svg, &across, &up, staffs, k) || shaded;
         }
         svg_panel(svg, &across, &up, title, "height (mm)", k + 1 == staffs->count ? "time (s)" : NULL);
         still_water(svg, &across, &up);
@@ -243,6 +263,6 @@ void draw_staffs(struct text *svg, const char *name, const struct staffs *staffs
         frame(svg, &across, &up);
     }
     if (staffs->counted)
-        waves_key(svg, below + 12, staffs);
+        waves_key(svg, below + 12, staffs, shaded);
     svg_end(svg);
 }

@@ -119,19 +119,26 @@ static bool begins_own(const struct record *record, int file, bool cut)
     return own;
 }
 
+/* The end of a file, as much as has its last line and the one before it; gives where the last begins, without its end,
+   after the end of the one before. NULL if there are no two. */
+static char *last_line(int file, char bytes[TAIL_ROOM + 1])
+{
+    uint64_t length = length_of(file);
+    size_t got = read_at(file, length > TAIL_ROOM ? length - TAIL_ROOM : 0, bytes, TAIL_ROOM);
+    if (got < 2 || bytes[got - 1] != '\n')
+        return NULL;
+    bytes[got - 1] = '\0';
+    return strrchr(bytes, '\n');
+}
+
 /* Whether a file's last line says complete and has the sum of all before it. */
 static bool is_whole(int file)
 {
-    char bytes[TAIL_ROOM + 1] = "", *line;
+    char bytes[TAIL_ROOM + 1] = "", *line = last_line(file, bytes);
     uint64_t length = length_of(file);
-    size_t got = read_at(file, length > TAIL_ROOM ? length - TAIL_ROOM : 0, bytes, TAIL_ROOM);
     struct tail tail;
     struct sum sum;
     struct hex hex;
-    if (got < 2 || bytes[got - 1] != '\n')
-        return false;
-    bytes[got - 1] = '\0';
-    line = strrchr(bytes, '\n');
     if (!line || !take_tail(line + 1, &tail) || !tail.complete || !tail.summed ||
         !sum_start(file, length - strlen(tail.sum.text) - 1, &sum))
         return false;
@@ -324,12 +331,28 @@ enum status record_anew(struct record *record, const uint8_t *file, bool replace
     return STATUS_REFUSED;
 }
 
+/* Whether NAME, which is whole, tells counts of gauges that were placed where those of this run were; or tells none, as
+   an earlier program left it. Its rows alone can be those of a record that another START began. */
+static bool counts_alike(const struct record *record)
+{
+    char bytes[TAIL_ROOM + 1] = "", *last = last_line(record->named, bytes), *line = last;
+    struct waves waves;
+    if (!last)
+        return false;
+    while (line > bytes && line[-1] != '\n')
+        line--;
+    if (line[0] != '#')
+        return true;
+    last[1] = '\0';
+    return take_waves(line, &waves) && waves.first == (int64_t)record->gauges.placed + 1;
+}
+
 enum status record_name_free(struct record *record, bool replace)
 {
     record->over = (struct over){.any = replace};
     if (!record->there || replace)
         return STATUS_DONE;
-    if (record->named_whole && begins_own(record, record->named, false)) {
+    if (record->named_whole && begins_own(record, record->named, false) && counts_alike(record)) {
         struct sum sum;
         record->over.own = sum_start(record->named, length_of(record->named), &sum);
         record->over.sum = sum_hex(&sum);

@@ -58,7 +58,8 @@ bool record_find(struct record *record, const struct saved *saved, const uint8_t
    are not known to be the channel's. `replace` lets a run from step 0 write over it. */
 enum status record_anew(struct record *record, const uint8_t *file, bool replace);
 
-/* Whether NAME may be written over at the end: it is not there, is whole and of this run, or `replace` is given. */
+/* Whether NAME may be written over at the end: it is not there, is whole, of this run and with waves that are counted
+   from the same step on, or `replace` is given. For the gauges that were found or placed. */
 enum status record_name_free(struct record *record, bool replace);
 
 /* Brings NAME.open to the rows that are kept, and writes that of the channel's own count if one is due and lacking. */

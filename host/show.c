@@ -54,8 +54,8 @@ static void tell_staffs(const char *path, const struct staffs *staffs)
 {
     tell("%s", path);
     tell("  %s", staffs_standing(staffs).text);
-    tell("  %s rows, from %s s to %s s", GROUPED((int64_t)staffs->rows), THOUSANDTHS(staffs->times[0]),
-         THOUSANDTHS(staffs->times[staffs->rows - 1]));
+    tell("  %s row%s, from %s s to %s s; lowest and highest are those of the rows", GROUPED((int64_t)staffs->rows),
+         staffs->rows == 1 ? "" : "s", THOUSANDTHS(staffs->times[0]), THOUSANDTHS(staffs->times[staffs->rows - 1]));
     for (size_t k = 0; k < staffs->count; k++) {
         size_t low = 0, high = 0;
         for (size_t row = 1; row < staffs->rows; row++) {

@@ -98,8 +98,8 @@ def count_lines(cells, fed, placed=0):
     text = ""
     for cell, heights in zip(cells, fed):
         gauge = Gauge(heights, placed)
-        text += f"# cell {cell}: {gauge.fed} heights from step {placed + 1}, {gauge.waves} waves, largest " \
-            f"{gauge.largest} um, sum {gauge.sum} um"
+        text += f"# cell {cell}: {gauge.fed} height{'s' * (gauge.fed != 1)} from step {placed + 1}, {gauge.waves} " \
+            f"wave{'s' * (gauge.waves != 1)}, largest {gauge.largest} um, sum {gauge.sum} um"
         text += f", noted from step {gauge.noted[0]} to step {gauge.noted[1]}\n" if gauge.waves else "\n"
     return text.encode()
 

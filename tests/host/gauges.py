@@ -2,8 +2,8 @@
 import os, random, re, shutil, signal
 import xml.etree.ElementTree as xml
 
-from common import (INTERRUPTED, OPEN, OPTIONS, POUR, REFUSED, STAFFS, check, counted, forget, go, group, grown, known,
-    listing, parts_left, read, saved, start, tested, until, write)
+from common import (INTERRUPTED, OPEN, OPTIONS, POUR, REFUSED, STAFFS, TOP, check, counted, forget, go, group, grown,
+    known, listing, parts_left, read, saved, start, tested, until, write)
 from formats import (Gauge, beside, count_lines, counts, every_height, gauge_lines, heights, lines_of, record_end,
     record_rows, survey, up_to, wave_words, whole_record)
 
@@ -21,6 +21,7 @@ def gauges(begin, end, record):
     whatever_every(record)
     many_staffs()
     small_waves()
+    beyond_the_rows()
     gone_on_with(begin, end, record)
     begun_late(end)
     of_earlier_programs(begin, end, record)
@@ -68,14 +69,19 @@ def whatever_every(record):
     for every in (1, 2, 5, 7, 10, 299, 300, 301, 1000000):
         go("run", "start.channel", "-o", "g.end", *OPTIONS[:-1], every, "--record", "g.csv")
         check(last_lines(read("g.csv")).startswith(counted(300)) and whole_record(read("g.csv"), ALL), f"every {every}")
-        told = show("g.csv")
+        told = show("g.csv", "--svg", "g.svg")
+        rows, time = 300 // every + 1, f"{300 // every * every * 40 / 1000:.3f}"
+        check(f"  {rows} row{'s' * (rows > 1)}, from 0.000 s to {time} s; lowest and highest are those of the rows\n"
+            in told, f"every {every}: {told}")
         if every <= 300:
             check(told.endswith(BY.format("all 300 steps") + wave), f"every {every}: {told}")
+            picture(read("g.svg"), tested.fed)
         else:  # no row tells the time of a step
             step = [gauge.noted for gauge in map(Gauge, tested.fed)]
             check(all(f" (from step {a} to step {b})\n" in told for a, b in step), f"every {every}: {told}")
+            picture(read("g.svg"), [])
         go("check", "--staff", "g.csv", "--complete")
-        forget(*saved("g.end"), "g.csv")
+        forget(*saved("g.end"), "g.csv", "g.svg")
     check(lines_of(record)[2].encode().startswith(counted(300)), "the record of the run that most tests look at")
 
 
@@ -110,24 +116,59 @@ def many_staffs():
             check(read("m.r") == record, f"{number} of {cells}: gone on with, another record")
             told = show("m.r", "--svg", "m.svg")
             check(told.endswith(BY.format(f"all {steps} steps") + wave_words(marked, fed, 40)), "as shown")
-            picture(read("m.svg"), [Gauge(row).waves for row in fed])
+            picture(read("m.svg"), fed)
             forget("m.r", "m.svg", *saved("m.end", "m.check"))
         forget("m.channel", "m.csv")
 
 
-def picture(svg, waves):
-    """A picture of a record: a shaded time for each staff that has waves, and one in the key; all within the sheet."""
+def picture(svg, fed, placed=0):
+    """A picture of a record whose gauges were fed these heights: for each staff that has waves the time of the largest
+    is shaded, where it was among all steps and nowhere else; so is a patch in the key, if any is. All is within the
+    sheet."""
     sheet = xml.fromstring(svg)
     wide, high = float(sheet.get("width")), float(sheet.get("height"))
     name = "{http://www.w3.org/2000/svg}"
     shaded = [rect for rect in sheet.iter(name + "rect") if rect.get("class") == "largest"]
-    check(len(shaded) == sum(map(bool, waves)) + 1, f"{len(shaded)} times are shaded for {waves}")
-    for rect in shaded:
+    gauges = [gauge for gauge in (Gauge(row, placed) for row in fed) if gauge.waves]
+    check(len(shaded) == len(gauges) + bool(gauges), f"{len(shaded)} times are shaded, {len(gauges)} staffs have waves")
+    words = " ".join(sheet.itertext())
+    check(("when the largest wave was (noted by the host)" in words) == bool(gauges), f"the key: {words}")
+    for rect, gauge in zip(shaded, gauges):
         x, y, w, h = (float(rect.get(at)) for at in ("x", "y", "width", "height"))
-        if not (110 <= x and x + w <= 970.1 and w >= 1.9 and 0 <= y and y + h <= high and wide == 1000):
+        begin, end = (110 + 860 * (step - placed) / gauge.fed for step in gauge.noted)
+        begin = min(begin, 968)
+        if not (abs(x - begin) < 0.11 and abs(w - max(end - begin, 2)) < 0.11):
+            check(False, f"shaded from {x}, {w} wide, and not from {begin} to {end}")
+        if not (110 <= x and x + w <= 970.1 and 0 <= y and y + h <= high and wide == 1000):
             check(False, f"{x}, {y}, {w}, {h}: not within the panels")
     check(all(float(text.get("y")) < high for text in sheet.iter(name + "text") if text.get("y")),
         "words within the sheet")
+
+
+def beyond_the_rows():
+    """The largest wave runs after the last row, or before the first: it is shaded where it was."""
+    group("gauges whose largest wave lies between no rows")
+    go("make", os.path.join(TOP, "examples", "survey.csv"), "-o", "b.channel", "--width-mm", 2000, "--step-ms", 50,
+        "--steps", 600)
+    go("run", "b.channel", "-o", "b.end", "--staff", "10,60", "--record", "b.csv", "--checkpoint", "b.check",
+        "--checkpoint-every", 101)
+    fed = every_height(read("b.csv"))
+    forget("b.csv", *saved("b.end", "b.check"))
+    go("run", "b.channel", "-o", "b.end", "--staff", "10,60", "--record", "b.csv", "--every", 350, "--checkpoint",
+        "b.check", "--checkpoint-every", 101)
+    check(any(Gauge(row).noted[0] > 350 for row in fed), "one is after the last row")
+    told = show("b.csv", "--svg", "b.svg")
+    check(told.endswith(wave_words((10, 60), fed, 50)) and "2 rows, from 0.000 s to 17.500 s; " in told, told)
+    picture(read("b.svg"), fed)
+    # from a checkpoint, with one row that is the last step's
+    go("run", "b.channel", "-o", "c.end", "--checkpoint", "c.check", "--checkpoint-every", 101)
+    step = counts(read("c.check"))[1]
+    go("run", "c.check", "-o", "d.end", "--staff", "60,10", "--record", "d.csv", "--every", 600)
+    late = [row[step:] for row in reversed(fed)]
+    told = show("d.csv", "--svg", "d.svg")
+    check(told.endswith(wave_words((60, 10), late, 50, step)) and "1 row, from 30.000 s to 30.000 s; " in told, told)
+    picture(read("d.svg"), late, step)
+    forget("b.channel", "b.csv", "b.svg", "d.csv", "d.svg", *saved("b.end", "b.check", "c.end", "c.check", "d.end"))
 
 
 def small_waves():
@@ -153,7 +194,7 @@ def small_waves():
     check(last_lines(read("w.r")).decode().startswith(still.format(4) + still.format(9)), "still water")
     check(show("w.r", "--svg", "w.svg").endswith(
         BY.format("all 50 steps") + "  cell 4: no complete wave\n  cell 9: no complete wave\n"), "no complete wave")
-    picture(read("w.svg"), [0, 0])
+    picture(read("w.svg"), [[0] * 50] * 2)
     forget("w.csv", "w.channel", "w.r", "w.svg", *saved("w.end"))
 
 
@@ -258,10 +299,25 @@ def begun_late(end):
     go("run", "start.channel", "-o", "q.end", *NO_STAFFS, "--checkpoint", "q.check", "--checkpoint-every", 156)
     line = ("-o", "l.end", *OPTIONS, "--record", "l.csv")
     go("run", "p.check", *line)
-    go("run", "q.check", *line,
-        says="l.end: is of this run, but its waves are counted from step 158 on: it is not gone on with, and stays")
+    before = listing()
+    stays = "l.end: is of this run, but its waves are counted from step 158 on: it is not gone on with, and stays"
+    there = "l.csv: is there already and is not written over; give another name for RECORD, or --replace"
+    go("run", "q.check", *line, status=REFUSED, says=f"{stays}.*{there}")
+    go("run", "q.check", "-o", "m.end", *OPTIONS, "--record", "l.csv", status=REFUSED, says=there)
+    check(listing() == before, "the record of another START stays")
+    go("run", "q.check", *line, "--replace", says=stays)
     check(last_lines(read("l.csv")).startswith(counted(300, 156)), "from the step after START on")
     go("run", "q.check", *line, tells="it was there already")
+    # that of the same START is this run's own; and so is one without counts
+    late = read("l.csv")
+    forget(*saved("l.end"))
+    go("run", "q.check", *line)
+    check(read("l.csv") == late, "written over by the same")
+    rows = up_to(late, 300)
+    write("l.csv", rows + record_end(rows, f"{ALL}, recorded from step 160"))
+    forget(*saved("l.end"))
+    go("run", "q.check", *line)
+    check(read("l.csv") == late, "one of an earlier program gets its counts")
     # a channel that is complete already, and one whose first step is refused
     forget("l.csv", *saved("l.end"))
     go("run", "p.end", "-o", "l.end", *OPTIONS, "--record", "l.csv")
@@ -350,9 +406,12 @@ def untrue_gauges(begin, end, record):
     true = gauge_lines(STAFFS, [row[:280] for row in tested.fed])
     lines = [line.split() for line in true.splitlines()]
 
+    def with_numbers(gauge, numbers):
+        return "".join(" ".join(str(numbers.get(place, word)) if k == gauge else word for place, word in
+            enumerate(line)) + "\n" for k, line in enumerate(lines))
+
     def with_number(gauge, place, number):
-        return "".join(" ".join(line[:place] + [str(number)] + line[place + 1:] if k == gauge else line) + "\n"
-            for k, line in enumerate(lines))
+        return with_numbers(gauge, {place: number})
 
     cell, fed, last, crossings, highest, lowest, largest, total, _, crossed, began, ended = range(1, 13)
     cases = {"another cell": with_number(0, cell, 4), "cell 0": with_number(1, cell, 0),
@@ -368,9 +427,18 @@ def untrue_gauges(begin, end, record):
         "a sum too far": with_number(0, total, 10 ** 13), "a crossing to come": with_number(0, crossed, 281),
         "no crossing noted": with_number(0, crossed, 0), "from the start": with_number(0, began, 1),
         "no begin": with_number(0, began, 0), "an end before it": with_number(0, ended, int(lines[0][began]) - 1),
-        "an end beyond the last crossing": with_number(0, ended, 280), "one lacks": "".join(true.splitlines(True)[:2]),
+        "an end beyond the last crossing": with_number(0, ended, 280),
+        "a sum above the largest times the waves": with_number(0, total, 2 * int(lines[0][largest]) + 1),
+        "waves of no height": with_numbers(0, {largest: 0, total: 0}), "a largest of 0": with_number(0, largest, 0),
+        "a highest below the last": with_number(2, highest, int(lines[2][last]) - 1),
+        "a lowest above the last": with_number(0, lowest, int(lines[0][last]) + 1),
+        "no height of a crossing": with_number(0, highest, -1), "a crossing below zero": with_number(0, crossed, 280),
+        "no crossing, but a highest": with_numbers(1, {crossings: 0, crossed: 0}),
+        "one lacks": "".join(true.splitlines(True)[:2]),
         "one too many": true + true.splitlines(True)[0], "another order": "".join(reversed(true.splitlines(True))),
         "none": ""}
+    check([line[place] for line, place in zip(lines, (crossings, crossings, last))] == ["3", "1", "1748"] and
+        int(lines[0][last]) < 0, f"the gauges that these cases are made of: {true}")
     for name, text in cases.items():
         forget(*files)
         write("u.check", half)
@@ -389,6 +457,28 @@ def untrue_gauges(begin, end, record):
         go("run", "u.check", "-o", "u.end", *OPTIONS, "--record", "u.csv", status=REFUSED, name=name,
             says=f"u.check: {UNKNOWN.format('the gauges of its record')}")
         check(listing() == before, f"{name}: something was written or changed")
+    # made up on purpose: whatever is taken, the record in the end is whole
+    draw = random.Random(tested.seed + 8)
+    taken = 0
+    for _ in range(300):
+        gauge = draw.randrange(3)
+        numbers = {place: draw.choice((0, 0, -1, 1, 2, 3, int(lines[gauge][place]) + draw.randrange(-3, 4),
+            int(lines[gauge][draw.choice((last, highest, lowest, largest, total, crossed, began, ended))]),
+            draw.randrange(281), -draw.randrange(9000), draw.randrange(99000)))
+            for place in draw.sample((crossings, highest, lowest, largest, total, crossed, began, ended),
+                draw.randrange(1, 4))}
+        if draw.random() < 0.3:  # as if there had been no wave, or no crossing
+            numbers = {crossings: 1, largest: 0, total: 0, began: 0, ended: 0, **numbers}
+        elif draw.random() < 0.3:
+            numbers = {place: 0 for place in range(crossings, ended + 1) if place != 9} | numbers
+        forget(*files)
+        write("u.check", half)
+        write("u.check.run", beside(run, (half, behind, with_numbers(gauge, numbers))))
+        write("u.csv.open", behind)
+        _, err = go(*command)
+        taken += "cut before: goes on after step 280" in err
+        go("check", "--staff", "u.csv", "--complete", tells="complete: all 300", name=f"{gauge} with {numbers}")
+    check(taken >= 10, f"{taken} of 300 are taken")
     # a digit changed: its sum tells, whichever it is
     text = beside(run, (half, behind, true))
     forget(*files)
@@ -477,5 +567,5 @@ def in_words(record):
         check(f"{gauge.waves} wave{'s' * (gauge.waves > 1)}, mean {mean / 1000:.3f} mm, largest "
             f"{gauge.largest / 1000:.3f} mm" in words, f"the picture's words: {words}")
     check("waves by the proved counts of all 300 steps" in words and "(noted by the host)" in words, words)
-    picture(read("o.svg"), [Gauge(row).waves for row in tested.fed])
+    picture(read("o.svg"), tested.fed)
     forget("o.svg")
