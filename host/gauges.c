@@ -2,9 +2,6 @@
 
 #include <string.h>
 
-/* The numbers that are read of one gauge. */
-enum { READ_CELL, READ_FED, READ_CROSSINGS, READ_WAVES, READ_LARGEST, READ_SUM, READ_NUMBERS };
-
 /* How many groups so many gauges are. */
 static size_t groups_of(size_t count)
 {
@@ -26,13 +23,13 @@ static void put_number(uint8_t *at, int64_t number)
 
 struct waves waves_at(const struct gauges *gauges, size_t staff)
 {
-    const int64_t *read = gauges->readings + staff * READ_NUMBERS;
-    return (struct waves){.cell = read[READ_CELL],
-                          .fed = read[READ_FED],
+    const int64_t *read = gauges->readings + staff * PATHPETAL_READ_NUMBERS;
+    return (struct waves){.cell = read[PATHPETAL_READ_CELL],
+                          .fed = read[PATHPETAL_READ_FED],
                           .first = (int64_t)gauges->placed + 1,
-                          .count = read[READ_WAVES],
-                          .largest = read[READ_LARGEST],
-                          .sum = read[READ_SUM],
+                          .count = read[PATHPETAL_READ_WAVES],
+                          .largest = read[PATHPETAL_READ_LARGEST],
+                          .sum = read[PATHPETAL_READ_SUM],
                           .from = gauges->noted[staff].from,
                           .to = gauges->noted[staff].to};
 }
@@ -71,9 +68,9 @@ uint64_t gauges_place(struct gauges *gauges, const uint8_t *file, const size_t *
    is as high as the largest before it is not larger. */
 static void note(struct noted *noted, const int64_t *before, const int64_t *after, uint32_t step)
 {
-    if (after[READ_CROSSINGS] == before[READ_CROSSINGS])
+    if (after[PATHPETAL_READ_CROSSINGS] == before[PATHPETAL_READ_CROSSINGS])
         return;
-    if (after[READ_LARGEST] > before[READ_LARGEST]) {
+    if (after[PATHPETAL_READ_LARGEST] > before[PATHPETAL_READ_LARGEST]) {
         noted->from = noted->crossed;
         noted->to = step;
     }
@@ -94,7 +91,7 @@ uint64_t gauges_feed(struct gauges *gauges, const uint8_t *file)
     if (pathpetal_number(answer) != PATHPETAL_DONE)
         return answer;
     for (size_t k = 0; k < gauges->count; k++)
-        note(&gauges->noted[k], gauges->readings + k * READ_NUMBERS, readings + k * READ_NUMBERS,
+        note(&gauges->noted[k], gauges->readings + k * PATHPETAL_READ_NUMBERS, readings + k * PATHPETAL_READ_NUMBERS,
              pathpetal_accepted(file));
     memcpy(gauges->bytes, bytes, groups * PATHPETAL_GAUGES_LENGTH);
     memcpy(gauges->readings, readings, groups * PATHPETAL_READINGS * sizeof readings[0]);
@@ -117,8 +114,8 @@ static bool can_be(const struct gauge *kept, const int64_t *read, int64_t placed
 {
     const struct noted *noted = &kept->noted;
     int64_t last = kept->numbers[GAUGE_LAST], highest = kept->numbers[GAUGE_HIGHEST];
-    int64_t lowest = kept->numbers[GAUGE_LOWEST], waves = read[READ_WAVES];
-    if (read[READ_CROSSINGS] == 0)
+    int64_t lowest = kept->numbers[GAUGE_LOWEST], waves = read[PATHPETAL_READ_WAVES];
+    if (read[PATHPETAL_READ_CROSSINGS] == 0)
         return noted->crossed == 0 && noted->from == 0 && noted->to == 0 && highest == 0 && lowest == 0;
     if (noted->crossed < placed + 2 || noted->crossed + (last < 0) > step || highest < 0 || lowest > last ||
         last > highest)
@@ -126,7 +123,7 @@ static bool can_be(const struct gauge *kept, const int64_t *read, int64_t placed
     if (waves == 0)
         return noted->from == 0 && noted->to == 0;
     return noted->from >= placed + 2 && noted->to >= noted->from + 2 && noted->to <= noted->crossed &&
-           read[READ_LARGEST] >= 1 && read[READ_SUM] <= read[READ_LARGEST] * waves;
+           read[PATHPETAL_READ_LARGEST] >= 1 && read[PATHPETAL_READ_SUM] <= read[PATHPETAL_READ_LARGEST] * waves;
 }
 
 bool gauges_take(struct gauges *gauges, const struct gauge *kept, const size_t *cells, size_t count,
@@ -147,8 +144,8 @@ bool gauges_take(struct gauges *gauges, const struct gauge *kept, const size_t *
     if (pathpetal_number(read_all(gauges->bytes, groups_of(count), gauges->readings)) != PATHPETAL_DONE)
         return false;
     for (size_t k = 0; k < count; k++) {
-        const int64_t *read = gauges->readings + k * READ_NUMBERS;
-        if (read[READ_CELL] != (int64_t)cells[k] + 1 || read[READ_FED] != fed ||
+        const int64_t *read = gauges->readings + k * PATHPETAL_READ_NUMBERS;
+        if (read[PATHPETAL_READ_CELL] != (int64_t)cells[k] + 1 || read[PATHPETAL_READ_FED] != fed ||
             kept[k].numbers[GAUGE_LAST] != (fed > 0 ? pathpetal_height_um(file, cells[k]) : 0) ||
             !can_be(&kept[k], read, gauges->placed, step))
             return false;
