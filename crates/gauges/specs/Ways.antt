@@ -6,7 +6,9 @@ use mathlib.Core.List.{List, []}
 use lib.ListN.{length}
 use Rattle.rule.specs.declared.Fault.{Fault}
 use Rattle.rule.specs.Rows.{Row}
-use Rattle.whole.specs.Row.{Within}
+use native.Mathlib.Omega.{arith}
+use lib.Dec.{lit≤}
+use Rattle.whole.specs.Row.{Within, within-more}
 use Rattle.rule.specs.Ranges.{mostCells, mostHeight}
 use Rattle.rule.specs.Channel.{Channel}
 use Rattle.rule.specs.Refusals.{Outcome, done, numberOf, faultOf, _>>=_}
@@ -44,6 +46,13 @@ module _ (c : Channel) (z : numberOf (checked c []) ≡ 0) where
 
   pub heights-small : Within mostHeight (length (c .e)) (c .e)
   heights-small = let a = allowed-of c [] z .cells in rw (a .e-long) (a .e-small)
+
+  -- what is asked of a row that is fed; depths would pass it too
+  pub feeds-heights : (length (c .e) ≤ mostCells) × Within mostHeight (length (c .e)) (c .e)
+  feeds-heights = (omega (arith, cells-most, heights-long), heights-small)
+
+  pub feeds-depths : (length (c .h) ≤ mostCells) × Within mostHeight (length (c .h)) (c .h)
+  feeds-depths = let a = allowed-of c [] z .cells in (omega (arith, cells-most, a .h-long), rw (a .h-long) (within-more (lit≤ tt) (a .h-small)))
 
   pub place-on : (j : ℕ) (s : List ℕ) → called s (λ (_ : List ℕ). free s) (λ t. t) (placed (c .N) j s) ≡ placeCall c j s
   unfolding placeCall

@@ -9,7 +9,7 @@ use Rattle.rule.specs.Refusals.{numberOf}
 use Rattle.rule.specs.Checks.{checked}
 use Rattle.answers.specs.Stages.{leavesBytes}
 use Rattle.checks.specs.Numbers.{numbered}
-use Rattle.gauges.specs.Ways.{feed-refused, cells-most, heights-long, heights-small, feed-on}
+use Rattle.gauges.specs.Ways.{feeds-heights, feeds-depths, feed-refused, feed-on}
 use Rattle.gauges.proofs.feed.Statement.{statement}
 use Rattle.gauges.proofs.feed.Tie as tie
 
@@ -34,8 +34,13 @@ returns c =
     let k = t .before .before .check in
     ap (λ r. leavesBytes r (s .args .gauges .now)) (c .refused .ensures) ∙ feed-refused (channel s) (s .args .gauges .now) (k .result) (k .ensures) (t .if1 .taken)
 
+-- of the depths too, so that what is fed is for the contract to say
 feed-requires : tie.Need-feed-requires
-feed-requires c κs = let e = c .before in let h = channel (e .before .before .before .before) in (omega (arith, cells-most h (passed e), heights-long h (passed e)), heights-small h (passed e))
+feed-requires c κs =
+    let e = c .before in
+    let d = channel (e .before .before .before .before) in
+    let z = passed e in
+    search (needs, feeds-heights d z, feeds-depths d z)
 
 same-length : tie.Need-same-length
 same-length c = search needs

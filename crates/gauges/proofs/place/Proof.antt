@@ -35,7 +35,10 @@ returns c =
     ap (λ r. leavesBytes r (s .args .gauges .now)) (c .refused .ensures) ∙ place-refused (channel s) (s .args .gauges .now) (k .result) (k .ensures) (t .if1 .taken) (s .args .cell)
 
 place-requires : tie.Need-place-requires
-place-requires c κs = let e = c .before in cells-most (channel (e .before .before .before .before)) (passed e)
+place-requires c κs =
+    let e = c .before in
+    let few = cells-most (channel (e .before .before .before .before)) (passed e) in
+    omega (arith, few)
 
 same-length : tie.Need-same-length
 same-length c = search needs

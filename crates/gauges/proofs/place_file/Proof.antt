@@ -47,7 +47,7 @@ count-at-requires : tie.Need-count-at-requires
 count-at-requires c κs = omega (arith, taken c .head)
 
 place-requires : tie.Need-place-requires
-place-requires c κs = held (c .before) .most
+place-requires c κs = omega (arith, held (c .before) .most)
 
 same-length : tie.Need-same-length
 same-length c = search needs
