@@ -1,6 +1,6 @@
 -- "Gauges": the eight numbers that a gauge keeps of its record, what one height more makes of them, and their ranges.
-use Prim.Native.Nat.{ℕ, suc}
-use mathlib.Core.Bool.{Bool, true, cond, _&&_, _||_}
+use Prim.Native.Nat.{ℕ}
+use mathlib.Core.Bool.{Bool, cond, _&&_, _||_}
 use mathlib.Core.List.{List, [], _∷_}
 use lib.ListN.{length}
 use lib.IntN.{ℤ, pos, _+ℤ_, _-ℤ_, _*ℤ_}
@@ -8,7 +8,7 @@ use lib.Signed.{ltZ, leZ}
 use Rattle.rule.specs.Rows.{Row, minus}
 use Rattle.rule.specs.Ranges.{mostCells}
 use Rattle.gauge.specs.declared.Gauge.{Gauge}
-use Rattle.gauge.specs.Waves.{upward, begun, higher, lower, highest, lowest, waveCount, largestHeight, sumOfHeights}
+use Rattle.gauge.specs.Waves.{upward, begun, higher, lower, highest, lowest, largestHeight, sumOfHeights}
 
 -- the last one, 0 where there is none
 unfoldable pub lastOf : ℤ → Row → ℤ

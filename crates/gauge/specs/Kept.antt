@@ -1,15 +1,15 @@
 -- "Gauges": a gauge whose numbers are in their ranges has them there after one height more, and so has one that was fed any record of
 -- at most 1,000,000 heights of a channel. Assumes nothing.
-use Prim.Native.Nat.{ℕ, zero, suc, _+_, _*_, _≤_, _<_}
+use Prim.Native.Nat.{ℕ, _+_, _*_, _≤_}
 use mathlib.Core.Path.{_≡_, refl, sym, _∙_, ap, subst}
-use mathlib.Core.Bool.{Bool, true, false, cond, _&&_}
-use mathlib.Core.List.{List, [], _∷_, _++_}
+use mathlib.Core.Bool.{Bool, true, false, cond}
+use mathlib.Core.List.{[], _∷_}
 use native.Mathlib.Omega.{arith}
 use borrow.Author.Tests.{lt-ltb}
 use lib.ListN.{length}
 use lib.IntN.{ℤ, pos, _+ℤ_, _-ℤ_, _*ℤ_}
 use lib.Signed.{ltZ, leZ}
-use Rattle.whole.specs.Ring.{R, var, num, neg, _⊕_, _⊖_, _⊗_, ring}
+use Rattle.whole.specs.Ring.{var, num, neg, _⊕_, _⊖_, _⊗_, ring}
 use Rattle.whole.specs.Order.{at-most, is-at-most, less, is-less, is-not-less}
 use Rattle.whole.specs.Tests.{and-yes, both}
 use Rattle.rule.specs.Rows.{Row, map, all, sum}
@@ -227,7 +227,7 @@ grown-fed-by true b g x = refl
 grown-fed-by false true g x = refl
 grown-fed-by false false g x = refl
 
-pub grown-fed : (g : Gauge) (x : ℤ) → grown g x .fed ≡ g .fed +ℤ pos 1
+grown-fed : (g : Gauge) (x : ℤ) → grown g x .fed ≡ g .fed +ℤ pos 1
 unfolding grown
 grown-fed g x = grown-fed-by (upward (g .last) x) (met g) g x
 

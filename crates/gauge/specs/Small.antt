@@ -2,11 +2,9 @@
 -- nothing.
 use Prim.Native.Nat.{ℕ, _≤_}
 use mathlib.Core.Path.{_≡_}
-use mathlib.Core.Bool.{Bool, true, _&&_}
-use native.Mathlib.Nat.{le-trans}
+use mathlib.Core.Bool.{true}
 use native.Mathlib.Omega.{arith}
-use lib.Dec.{lit≤}
-use lib.IntN.{ℤ, pos, negℤ, natAbs}
+use lib.IntN.{ℤ, pos, natAbs}
 use Rattle.whole.specs.Ring.{var, num, neg, within}
 use Rattle.whole.specs.Order.{at-most}
 use Rattle.whole.specs.Tests.{both}
@@ -30,7 +28,7 @@ from-size least most x t =
     let b = both _ _ t in
     within (var x) most (omega (arith, at-most (var x) (num most) (b .1))) (omega (arith, at-most (num least) (var x) (b .0)))
 
-pub height-size : (x : ℤ) → from leastHeight mostHeight x ≡ true → natAbs x ≤ 20_000_000
+height-size : (x : ℤ) → from leastHeight mostHeight x ≡ true → natAbs x ≤ 20_000_000
 unfolding from
 height-size x t =
     let b = both _ _ t in

@@ -4,7 +4,7 @@ use mathlib.Core.Bool.{Bool, not, cond}
 use mathlib.Core.List.{List, [], _∷_, _++_}
 use lib.Dec.{eqb}
 use lib.ListN.{length, take, drop}
-use lib.IntN.{ℤ, pos, natAbs}
+use lib.IntN.{pos, natAbs}
 use lib.Signed.{ltZ, leZ}
 use Rattle.whole.specs.Row.{tab}
 use Rattle.rule.specs.Rows.{Row, cell, map, all, lowest}

@@ -1,13 +1,13 @@
 -- "Gauges": what a place that passes its tests has. Assumes nothing.
-use Prim.Native.Nat.{ℕ, suc, _+_, _-_, _≤_, _<_, _^_}
+use Prim.Native.Nat.{ℕ, _-_, _≤_, _<_}
 use native.Mathlib.Nat.{le-trans}
 use native.Mathlib.Omega.{arith}
-use mathlib.Core.Path.{_≡_, refl, sym, ap, _∙_}
+use mathlib.Core.Path.{_≡_, refl}
 use mathlib.Core.Bool.{Bool, true, false, _&&_, _||_}
 use lib.Dec.{lit≤}
 use lib.IntN.{ℤ, pos, negsuc, natAbs}
 use lib.Signed.{leZ}
-use Rattle.whole.specs.Ring.{P, N, var, num}
+use Rattle.whole.specs.Ring.{var, num}
 use Rattle.whole.specs.Order.{at-most}
 use Rattle.whole.specs.Row.{Within}
 use Rattle.whole.specs.Tests.{both}

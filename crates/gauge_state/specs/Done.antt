@@ -1,8 +1,7 @@
 -- "Gauges": a state after a call: refused, it is as it was; accepted, its bytes are those of the numbers that were written. Assumes
 -- nothing.
-use Prim.Native.Nat.{ℕ, zero, suc, _+_, _*_, _-_, _≤_, _<_}
+use Prim.Native.Nat.{ℕ, zero, suc, _+_, _*_, _-_, _≤_}
 use mathlib.Core.Path.{_≡_, refl, sym, _∙_, ap}
-use mathlib.Core.Bool.{Bool, true, false, not}
 use mathlib.Core.List.{List, []}
 use native.Mathlib.Omega.{arith}
 use borrow.Author.Tests.{not-true, eqb-false, leb-true}
@@ -12,9 +11,9 @@ use lib.ListN.{length}
 use Rattle.whole.specs.Row.{tab, length-tab}
 use Rattle.whole.specs.Tests.{both}
 use Rattle.rule.specs.declared.Fault.{Fault}
-use Rattle.rule.specs.Rows.{Row, map, lowest}
+use Rattle.rule.specs.Rows.{Row, map}
 use Rattle.rule.specs.Ranges.{between}
-use Rattle.rule.specs.Refusals.{Outcome, done, numberOf, faultOf, _>>=_}
+use Rattle.rule.specs.Refusals.{numberOf, faultOf}
 use Rattle.rule.specs.Bytes.{rowBytes}
 use Rattle.rule.specs.Calls.{called, plainly}
 use Rattle.answers.specs.Stages.{early, acceptance, leavesBytes, refused-first, accepted-call}
@@ -24,7 +23,7 @@ use Rattle.little.specs.Entries.{length-rowBytes, length-rowAt}
 use Rattle.places.specs.Lowest.{lowest-most}
 use Rattle.gauge.specs.declared.Gauge.{Gauge}
 use Rattle.gauge.specs.Gauge.{gaugeOf}
-use Rattle.gauge.specs.State.{stateLength, stateNumbers, readNumbers, numbers, reading, gaugeAt, gaugesIn, flat, stateRow, gaugesOf, stateOf, formed, taken, free, withGauge, placeable, placed, fedFrom, feedable, fed, readable, readings}
+use Rattle.gauge.specs.State.{stateLength, stateNumbers, numbers, reading, gaugeAt, gaugesIn, flat, stateRow, gaugesOf, stateOf, taken, free, withGauge, placeable, placed, fedFrom, feedable, fed, readable, readings}
 use Rattle.gauge.specs.OnGauges.{readState}
 use Rattle.little.specs.Written.{length-written}
 use Rattle.gauge_rows.specs.Chunks.{long-numbers, fedPlace, long-fed, fed-all, length-flat}

@@ -1,13 +1,13 @@
 -- "Gauges": the refusals of a state, in their order: 12, 14; then 20 and 21, 21 and 30, or 15. None has a place. Assumes nothing.
-use Prim.Native.Nat.{ℕ, _≤_}
+use Prim.Native.Nat.{ℕ}
 use mathlib.Core.Path.{_≡_, refl, sym, _∙_, ap}
-use mathlib.Core.Bool.{Bool, true, false, not, _&&_}
+use mathlib.Core.Bool.{Bool, true, false, not}
 use mathlib.Core.List.{List}
 use borrow.Author.Tests.{ne-eqb, eq-eqb, eqb-true}
 use lib.Dec.{eqb}
 use lib.ListN.{length}
 use Rattle.rule.specs.declared.Fault.{Fault}
-use Rattle.rule.specs.Rows.{Row, all, lowest}
+use Rattle.rule.specs.Rows.{all, lowest}
 use Rattle.rule.specs.Ranges.{between}
 use Rattle.rule.specs.Refusals.{Refusal, Outcome, number, place, numberOf, placeOf, faultOf, _>>=_, require, bufferLength, gaugesLength, gaugesValue, ninthGauge, offChannel, gaugeFull}
 use Rattle.places.specs.Lowest.{lowest-none, lowest-zero}
@@ -15,7 +15,7 @@ use Rattle.places.specs.Faults.{plain}
 use Rattle.checks.specs.Numbers.{stops, goes-on, passed, passed-last, both-done, Outside, Early, refuses-then, refuses-test, refuses-last}
 use Rattle.gauge.specs.declared.Gauge.{Gauge}
 use Rattle.gauge.specs.Gauge.{right}
-use Rattle.gauge.specs.State.{stateLength, readNumbers, gaugesOf, formed, taken, free, placeable, placed, standsIn, hasRoom, feedable, fed, readable, readings}
+use Rattle.gauge.specs.State.{stateLength, readNumbers, gaugesOf, formed, free, placeable, standsIn, hasRoom, feedable, readable}
 
 -- one that has failed is the lowest place, and one that has not is none
 one-fails : (p : Gauge → Bool) (gs : List Gauge) (b : Bool) → all p gs ≡ b → (lowest p gs ≡ 0 → ⊥) → all p gs ≡ false

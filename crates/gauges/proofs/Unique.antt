@@ -1,8 +1,6 @@
 -- Any two outcomes that the contracts of the gauges' calls permit coincide: for all counts, rows and bytes that are lent, each answers
 -- one answer and leaves one state, or one row of readings. `Post` is the contract itself, as the check reads it. Assumes nothing.
-use Prim.Native.Nat.{ℕ}
 use mathlib.Core.Path.{_≡_, sym, _∙_, ap}
-use mathlib.Core.List.{List}
 use contract.Lifetimes.{Lfts}
 use denote.Ref.{now}
 use denote.Triple.Clauses.{AtExit}

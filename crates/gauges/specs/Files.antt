@@ -1,13 +1,13 @@
 -- "Gauges": the heights in a channel file that the reader takes. Assumes nothing.
 use Prim.Native.Nat.{ℕ, _≤_}
-use mathlib.Core.Path.{_≡_, refl, sym, _∙_, ap}
+use mathlib.Core.Path.{_≡_, refl}
 use mathlib.Core.Bool.{Bool}
 use mathlib.Core.List.{List}
 use lib.ListN.{length}
 use Rattle.rule.specs.Rows.{Row}
 use Rattle.rule.specs.Ranges.{leastCells, mostCells}
 use Rattle.rule.specs.Channel.{lengths}
-use Rattle.rule.specs.Layout.{widths, lengthOf}
+use Rattle.rule.specs.Layout.{lengthOf}
 use Rattle.rule.specs.File.{edition, countOf, rowOf, channelOf}
 use Rattle.little.specs.Entries.{length-rowAt}
 use Rattle.opened.specs.Opened.{Opened}

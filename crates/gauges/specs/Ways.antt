@@ -1,7 +1,7 @@
 -- "Gauges": the ways out of a call: the channel's own refusal, or what is done to the gauges. Assumes nothing.
 use Prim.Native.Nat.{ℕ, _≤_}
-use mathlib.Core.Path.{_≡_, refl, sym, _∙_, ap}
-use mathlib.Core.Bool.{true, false}
+use mathlib.Core.Path.{_≡_, sym, _∙_, ap}
+use mathlib.Core.Bool.{false}
 use mathlib.Core.List.{List, []}
 use lib.ListN.{length}
 use Rattle.rule.specs.declared.Fault.{Fault}
@@ -11,14 +11,14 @@ use lib.Dec.{lit≤}
 use Rattle.whole.specs.Row.{Within, within-more}
 use Rattle.rule.specs.Ranges.{mostCells, mostHeight}
 use Rattle.rule.specs.Channel.{Channel}
-use Rattle.rule.specs.Refusals.{Outcome, done, numberOf, faultOf, _>>=_}
+use Rattle.rule.specs.Refusals.{done, numberOf, faultOf, _>>=_}
 use Rattle.rule.specs.Checks.{checked}
 use Rattle.rule.specs.File.{countOf, channelOf, readWith}
-use Rattle.rule.specs.Calls.{Called, called, plainly, read}
+use Rattle.rule.specs.Calls.{called, plainly, read}
 use Rattle.answers.specs.Stages.{early, leavesBytes, refused-first}
 use Rattle.checks.specs.Numbers.{after-done, done-of}
 use Rattle.checks.specs.Met.{checked-outside}
-use Rattle.checks.specs.Facts.{LengthsOf, cells-few}
+use Rattle.checks.specs.Facts.{cells-few}
 use Rattle.checks.specs.Allowed.{checks-passed, shape-lengths, allowed-of}
 use Rattle.form.specs.Reader.{fitsIn}
 use Rattle.opened.specs.Held.{cells-is}

@@ -9,7 +9,7 @@ use Rattle.rule.specs.Channel.{Channel}
 use Rattle.rule.specs.Refusals.{Outcome, refused, done, place, shape, speed, fileLength, fileEdition, fileOffsets, bufferLength}
 use Rattle.rule.specs.Flux.{fluxes}
 use Rattle.rule.specs.Checks.{long}
-use Rattle.rule.specs.Make.{reducedVelocities, makeChecked, make}
+use Rattle.rule.specs.Make.{reducedVelocities, make}
 use Rattle.rule.specs.File.{countOf, channelOf, readWith}
 use Rattle.rule.specs.Calls.{Called, read, rowIn, holds, onFile, stepCall, filterCall, runForCall, checkFile, stepFile, filterFile, runForFile, makeFile}
 use Rattle.checks.specs.Tests.{both}

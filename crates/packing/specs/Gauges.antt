@@ -1,18 +1,16 @@
 -- "Gauges": the answers of their calls are small enough for one number. Assumes nothing.
-use Prim.Native.Nat.{ℕ, _≤_}
-use mathlib.Core.Path.{_≡_, refl}
-use mathlib.Core.Bool.{Bool, true}
+use Prim.Native.Nat.{ℕ}
+use mathlib.Core.Path.{refl}
+use mathlib.Core.Bool.{true}
 use mathlib.Core.List.{List, []}
 use native.Mathlib.Omega.{arith}
-use lib.ListN.{length}
 use Rattle.rule.specs.Rows.{Row}
-use Rattle.rule.specs.Channel.{Channel}
 use Rattle.rule.specs.Refusals.{Outcome, refused, done, place, _>>=_, bufferLength, gaugesLength, gaugesValue, ninthGauge, offChannel, gaugeFull}
 use Rattle.rule.specs.Calls.{plainly, read}
 use Rattle.gauge.specs.State.{formed, free, placeable, placed, feedable, fed, readable, readings}
 use Rattle.gauge.specs.OnGauges.{placeFile, feedFile, readState}
 use Rattle.gauge_state.specs.Done.{free-most}
-use Rattle.packing.specs.Small.{Small, Bounded, Counted, bounded-then, bounded-test, bounded-require, counted-then, called-small, uncounted-small}
+use Rattle.packing.specs.Small.{Small, Bounded, Counted, bounded-then, bounded-test, bounded-require, called-small, uncounted-small}
 use Rattle.packing.specs.Answers.{read-bounded}
 
 formed-bounded : (s : List ℕ) → Bounded (formed s)

@@ -2,7 +2,6 @@
 -- number and leaves one file, one state of the gauges or one row of readings. `Post` is the contract itself, as the check reads it. Assumes nothing.
 use Prim.Native.Nat.{ℕ}
 use mathlib.Core.Path.{_≡_, sym, _∙_}
-use mathlib.Core.List.{List}
 use contract.Lifetimes.{Lfts}
 use denote.Ref.{now}
 use denote.Triple.Clauses.{AtExit}

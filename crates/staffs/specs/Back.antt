@@ -1,14 +1,13 @@
 -- "Gauges": a state that was written is read back as the same gauges. Assumes nothing.
-use Prim.Native.Nat.{ℕ, zero, suc, _+_, _*_, _≤_, _<_, _^_}
+use Prim.Native.Nat.{ℕ, zero, suc, _+_, _*_, _≤_, _<_}
 use mathlib.Core.Path.{_≡_, refl, sym, _∙_, ap}
-use mathlib.Core.Bool.{Bool, true}
 use mathlib.Core.List.{List, [], _∷_, _++_, append-nil}
 use native.Mathlib.Nat.{le-trans, mul-suc}
 use native.Mathlib.Omega.{arith}
 use lib.Dec.{lit≤, lit<}
-use lib.IntN.{ℤ, pos, natAbs}
-use lib.ListN.{length, getD, length-append}
-use Rattle.whole.specs.Row.{tab, tab-ext}
+use lib.IntN.{ℤ, natAbs}
+use lib.ListN.{length, getD}
+use Rattle.whole.specs.Row.{tab-ext}
 use Rattle.rule.specs.Rows.{Row, cell, map}
 use Rattle.rule.specs.Bytes.{rowBytes, rowAt}
 use Rattle.rows.specs.All.{tab-of}

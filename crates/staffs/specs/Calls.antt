@@ -16,8 +16,8 @@ use Rattle.answers.specs.Stages.{acceptance, leavesBytes, accepted-call}
 use Rattle.checks.specs.Numbers.{after-done, done-of}
 use Rattle.checks.specs.Allowed.{allowed-of}
 use Rattle.files.specs.Trips.{read-passes}
-use Rattle.gauge.specs.State.{readNumbers, numbers, reading, flat, stateOf, free, placed, fed, readings}
-use Rattle.gauge.specs.OnGauges.{placeCall, feedCall, placeFile, feedFile, readState}
+use Rattle.gauge.specs.State.{readNumbers, numbers, reading, flat, stateOf, free, fed, readings}
+use Rattle.gauge.specs.OnGauges.{placeCall, placeFile, feedFile, readState}
 use Rattle.staffs.specs.Staffs.{Staff, staff, gaugeFor, stateFor, longer}
 use Rattle.staffs.specs.Staffs as staffs
 use Rattle.staffs.specs.Back.{Each}

@@ -2,14 +2,13 @@
 -- that is fed in two runs, the second going on from the state that the first left, has the counts of one run. Assumes nothing.
 use Prim.Native.Nat.{ℕ, zero, suc, _+_, _-_, _≤_, _<_}
 use mathlib.Core.Path.{_≡_, refl, sym, _∙_, ap}
-use mathlib.Core.Bool.{Bool, true, false, cond, _&&_, _||_}
+use mathlib.Core.Bool.{Bool, true, false, _&&_}
 use mathlib.Core.List.{List, [], _∷_, _++_, append-assoc, append-nil}
 use native.Mathlib.Omega.{arith}
 use borrow.Author.Tests.{le-leb, lt-leb, lt-ltb, eq-eqb}
 use lib.Dec.{eqb, leb}
 use lib.IntN.{ℤ, pos, natAbs}
-use lib.ListN.{length, getD, length-append}
-use lib.Signed.{leZ, ltZ}
+use lib.ListN.{length, length-append}
 use Rattle.whole.specs.Ring.{num, _⊖_, ring}
 use Rattle.whole.specs.Tests.{and-yes, both}
 use Rattle.rule.specs.Rows.{Row, cell, map, all}
@@ -23,7 +22,7 @@ use Rattle.gauge.specs.Gauge.{none, gaugeOf, from, leastHeight, mostHeight, mos
 use Rattle.gauge.specs.Record.{grown-record}
 use Rattle.gauge.specs.Kept.{Kept, kept-record}
 use Rattle.gauge.specs.Small.{Small}
-use Rattle.gauge.specs.State.{stateLength, readNumbers, numbers, reading, flat, gaugesOf, stateOf, formed, standsIn, hasRoom, feedable, fed, fedFrom, readable, readings}
+use Rattle.gauge.specs.State.{stateLength, readNumbers, reading, flat, gaugesOf, stateOf, formed, standsIn, hasRoom, feedable, fed, fedFrom, readable, readings}
 use Rattle.gauge_rows.specs.Bounds.{right-small, fed-empty, fed-gauge}
 use Rattle.staffs.specs.Staffs.{Staff, free, staff, gaugeFor, stateFor, longer, followed, feeds}
 use Rattle.staffs.specs.Back.{Each, each-map, length-map, state-long, state-back}
@@ -126,7 +125,7 @@ module _ (ss : List Staff) (long : length ss ≡ 8) (proper : Each Proper ss) wh
   unfolding stateFor
   gauges-for = state-back (map gaugeFor ss) gauges-long gauges-small
 
-  pub length-for : length (stateFor ss) ≡ stateLength
+  length-for : length (stateFor ss) ≡ stateLength
   unfolding stateFor
   length-for = state-long (map gaugeFor ss) gauges-long gauges-small
 

@@ -1,30 +1,28 @@
 -- "Gauges": the heights of a channel that passes its checks are such as a record may hold, from -19,999,000 µm to 20,000,000 µm; so
 -- feeding it to staffs is accepted, and puts its heights to their records. Assumes nothing.
 use Prim.Native.Nat.{ℕ, suc, _+_, _*_, _≤_, _<_}
-use mathlib.Core.Path.{_≡_, refl, sym, _∙_, ap}
-use mathlib.Core.Bool.{Bool, true, _&&_}
+use mathlib.Core.Path.{_≡_, sym, _∙_, ap}
+use mathlib.Core.Bool.{true}
 use mathlib.Core.List.{List, []}
 use native.Mathlib.Omega.{arith}
 use lib.IntN.{ℤ, pos, natAbs, _+ℤ_, _*ℤ_}
 use lib.ListN.{length}
 use lib.Signed.{leZ}
-use Rattle.whole.specs.Row.{tab}
 use Rattle.whole.specs.Ring.{var, num, neg, _⊕_, _⊗_, size-0}
 use Rattle.whole.specs.Order.{at-most, is-at-most}
 use Rattle.whole.specs.Tests.{and-yes}
-use Rattle.rule.specs.Rows.{Row, cell, map, all}
+use Rattle.rule.specs.Rows.{cell, map, all}
 use Rattle.rule.specs.Ranges.{mostDepth, mostHeight, leastWater}
 use Rattle.rule.specs.Channel.{Channel, water}
-use Rattle.rule.specs.Refusals.{Outcome, done, numberOf, _>>=_}
+use Rattle.rule.specs.Refusals.{numberOf, _>>=_}
 use Rattle.rule.specs.Checks.{checked}
-use Rattle.rule.specs.Calls.{plainly, called}
+use Rattle.rule.specs.Calls.{plainly}
 use Rattle.rows.specs.All.{all-pass, pass-at}
 use Rattle.rows.specs.Firsts.{firsts-all}
 use Rattle.answers.specs.Stages.{acceptance, leavesBytes, accepted-call}
 use Rattle.checks.specs.Numbers.{after-done, done-of}
-use Rattle.checks.specs.Facts.{Depth}
-use Rattle.checks.specs.Allowed.{Allowed, allowed-of}
-use Rattle.gauge.specs.Gauge.{from, leastHeight}
+use Rattle.checks.specs.Allowed.{allowed-of}
+use Rattle.gauge.specs.Gauge.{from}
 use Rattle.gauge.specs.State.{fed}
 use Rattle.gauge.specs.OnGauges.{feedCall}
 use Rattle.staffs.specs.Staffs.{Staff, stateFor, longer}

@@ -1,7 +1,7 @@
 -- "Gauges": a gauge that is placed is a staff with an empty record, in the lowest place that is free. Assumes nothing.
-use Prim.Native.Nat.{ℕ, zero, suc, _+_, _*_, _-_, _≤_, _<_}
+use Prim.Native.Nat.{ℕ, suc, _+_, _*_, _-_, _≤_}
 use mathlib.Core.Path.{_≡_, refl, sym, _∙_, ap}
-use mathlib.Core.Bool.{Bool, true, false, not, cond, _&&_}
+use mathlib.Core.Bool.{Bool, true, false, not}
 use mathlib.Core.List.{List, [], _∷_, _++_, append-assoc}
 use native.Mathlib.Omega.{arith}
 use borrow.Author.Tests.{le-leb, ne-eqb}
@@ -12,16 +12,16 @@ use lib.Seq.{take-at, drop-at}
 use Rattle.whole.specs.Tests.{and-yes, both}
 use Rattle.rule.specs.Rows.{Row, map, all, lowestAfter, lowest}
 use Rattle.rule.specs.Ranges.{between}
-use Rattle.rule.specs.Refusals.{Outcome, done, _>>=_, require}
+use Rattle.rule.specs.Refusals.{done}
 use Rattle.rule.specs.Bytes.{rowBytes}
 use Rattle.checks.specs.Numbers.{after-done}
 use Rattle.gauge.specs.declared.Gauge.{Gauge}
-use Rattle.gauge.specs.Gauge.{none, gaugeOf, isEmpty}
-use Rattle.gauge.specs.State.{numbers, flat, gaugesOf, stateRow, stateOf, formed, taken, free, withGauge, placeable, placed}
+use Rattle.gauge.specs.Gauge.{none, gaugeOf}
+use Rattle.gauge.specs.State.{numbers, flat, stateRow, stateOf, formed, taken, free, withGauge, placeable, placed}
 use Rattle.staffs.specs.Staffs.{Staff, staff, gaugeFor, stateFor}
 use Rattle.staffs.specs.Staffs as staffs
 use Rattle.staffs.specs.Back.{Each, each-map, length-map, length-all, row-back}
-use Rattle.staffs.specs.Fed.{Proper, gauges-for, formed-for, not-empty, empty-is, let-by, all-each, right-for, gauges-long, gauges-small}
+use Rattle.staffs.specs.Fed.{Proper, gauges-for, formed-for, not-empty, empty-is, let-by, all-each, gauges-long, gauges-small}
 
 -- the lowest that fails, where those before it pass
 first-fails : {A : Type 0} (p : A → Bool) (k : ℕ) (xs : List A) (y : A) (ys : List A) → all p xs ≡ true → p y ≡ false → lowestAfter k p (xs ++ (y ∷ ys)) ≡ suc (k + length xs)

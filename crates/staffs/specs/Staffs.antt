@@ -2,7 +2,7 @@
 -- was fed. Their state, what is fed and what is read follow from these.
 use Prim.Native.Nat.{ℕ, _-_}
 use mathlib.Core.List.{List, [], _∷_, _++_}
-use lib.IntN.{ℤ, pos}
+use lib.IntN.{pos}
 use Rattle.rule.specs.Rows.{Row, cell, map}
 use Rattle.rule.specs.Refusals.{Outcome, done, _>>=_}
 use Rattle.gauge.specs.declared.Gauge.{Gauge}

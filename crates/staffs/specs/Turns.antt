@@ -1,14 +1,13 @@
 -- "Gauges": what a host does with each step: it takes the step, and then feeds the gauges what the step leaves. A step that is refused
 -- feeds nothing: the records have the heights after the accepted steps alone, in their order. Assumes nothing.
-use Prim.Native.Nat.{ℕ, suc, _+_, _≤_}
+use Prim.Native.Nat.{ℕ, suc, _≤_}
 use mathlib.Core.Path.{_≡_, refl, sym, _∙_, ap}
 use mathlib.Core.List.{List, [], _∷_}
 use native.Mathlib.Omega.{arith}
 use lib.ListN.{length}
 use Rattle.rule.specs.Rows.{Row, map}
 use Rattle.rule.specs.Channel.{Channel}
-use Rattle.rule.specs.Refusals.{Outcome, refused, done, numberOf}
-use Rattle.rule.specs.Checks.{checked}
+use Rattle.rule.specs.Refusals.{Outcome, refused, done}
 use Rattle.rule.specs.Step.{Stepped, step}
 use Rattle.rule.specs.Calls.{Called}
 use Rattle.checks.specs.Allowed.{allowed-of}

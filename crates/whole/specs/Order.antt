@@ -2,18 +2,15 @@
 -- `is-at-most a b (omega arith)` back. Assumes nothing.
 use mathlib.Core.Path.{_≡_, refl}
 use mathlib.Core.Bool.{true, false}
-use Prim.Native.Nat.{ℕ, suc, _+_, _≤_, _<_}
+use Prim.Native.Nat.{ℕ, _+_, _≤_, _<_}
 use native.Mathlib.Omega.{arith}
-use borrow.Author.Tests.{le-leb, leb-true, lt-ltb, le-ltb, ltb-true, ltb-false}
+use borrow.Author.Tests.{le-leb, leb-true, lt-ltb, le-ltb, ltb-true}
 use lib.IntN.{ℤ, pos, negsuc}
 use lib.Signed.{ltZ, leZ}
 use Rattle.whole.specs.Ring.{P, N, R, val, parts, sound}
 
 no : {A : Type 0} → false ≡ true → A
 no e = let z : _≡_ {A = ℕ} 0 1 = cc e in absurd (omega arith)
-
-yes-no : {A : Type 0} → true ≡ false → A
-yes-no e = let z : _≡_ {A = ℕ} 0 1 = cc e in absurd (omega arith)
 
 le-parts : (a b : ℤ) → leZ a b ≡ true → P a + N b ≤ P b + N a
 le-parts (pos a) (pos b) t = let h : a ≤ b = leb-true a b t in omega arith
@@ -40,12 +37,6 @@ lt-parts (pos a) (negsuc b) t = no t
 lt-parts (negsuc a) (pos b) t = omega arith
 lt-parts (negsuc a) (negsuc b) t = let h : b < a = ltb-true b a t in omega arith
 
-ge-parts : (a b : ℤ) → ltZ a b ≡ false → P b + N a ≤ P a + N b
-ge-parts (pos a) (pos b) t = let h : b ≤ a = ltb-false a b t in omega arith
-ge-parts (pos a) (negsuc b) t = omega arith
-ge-parts (negsuc a) (pos b) t = yes-no t
-ge-parts (negsuc a) (negsuc b) t = let h : a ≤ b = ltb-false b a t in omega arith
-
 parts-lt : (a b : ℤ) → P a + N b < P b + N a → ltZ a b ≡ true
 parts-lt (pos a) (pos b) h = lt-ltb a b (omega arith)
 parts-lt (pos a) (negsuc b) h = absurd (omega arith)
@@ -58,15 +49,12 @@ parts-ge (pos a) (negsuc b) h = refl
 parts-ge (negsuc a) (pos b) h = absurd (omega arith)
 parts-ge (negsuc a) (negsuc b) h = le-ltb b a (omega arith)
 
--- a < b, and not a < b
+-- a < b, and back; and not a < b
 pub less : (a b : R) → ltZ (val a) (val b) ≡ true → parts a .0 + parts b .1 < parts b .0 + parts a .1
 less a b t = omega (arith, sound a .is, sound b .is, lt-parts (val a) (val b) t)
 
 pub is-less : (a b : R) → parts a .0 + parts b .1 < parts b .0 + parts a .1 → ltZ (val a) (val b) ≡ true
 is-less a b h = parts-lt (val a) (val b) (omega (arith, sound a .is, sound b .is))
-
-pub not-less : (a b : R) → ltZ (val a) (val b) ≡ false → parts b .0 + parts a .1 ≤ parts a .0 + parts b .1
-not-less a b t = omega (arith, sound a .is, sound b .is, ge-parts (val a) (val b) t)
 
 pub is-not-less : (a b : R) → parts b .0 + parts a .1 ≤ parts a .0 + parts b .1 → ltZ (val a) (val b) ≡ false
 is-not-less a b h = parts-ge (val a) (val b) (omega (arith, sound a .is, sound b .is))

@@ -1,9 +1,7 @@
 -- `gauge::higher` meets its contract. Assumes nothing.
-use mathlib.Core.Path.{_≡_, sym, _∙_}
-use lib.IntN.{ℤ}
+use mathlib.Core.Path.{sym, _∙_}
 use lib.Signed.{ltZ}
 use mir.Syntax.{w64}
-use mir.Val.{toZ, ofZ}
 use mir.ValLaws.{toZ-ofZ}
 use Rattle.gauge.specs.Laws.{higher-second, higher-first}
 use Rattle.gauge.proofs.higher.Statement.{statement}

@@ -2,7 +2,7 @@
 use mathlib.Core.Path.{_≡_, _∙_, ap}
 use mathlib.Core.Bool.{_&&_}
 use borrow.Author.Needs.{needs, sfits-of}
-use lib.IntN.{ℤ, pos}
+use lib.IntN.{pos}
 use mir.Syntax.{w64}
 use mir.ValLaws.{toZ-ofZ}
 use Rattle.gauge.specs.Gauge.{from, inRanges, leastHeight, mostHeight}

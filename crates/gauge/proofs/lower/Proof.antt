@@ -1,9 +1,7 @@
 -- `gauge::lower` meets its contract. Assumes nothing.
-use mathlib.Core.Path.{_≡_, sym, _∙_}
-use lib.IntN.{ℤ}
+use mathlib.Core.Path.{sym, _∙_}
 use lib.Signed.{ltZ}
 use mir.Syntax.{w64}
-use mir.Val.{toZ, ofZ}
 use mir.ValLaws.{toZ-ofZ}
 use Rattle.gauge.specs.Laws.{lower-second, lower-first}
 use Rattle.gauge.proofs.lower.Statement.{statement}

@@ -1,6 +1,5 @@
 -- `gauge::right` meets its contract. Assumes nothing.
-use mathlib.Core.Path.{_≡_, sym, _∙_}
-use mathlib.Core.Bool.{true, false}
+use mathlib.Core.Path.{sym, _∙_}
 use borrow.Author.Needs.{needs}
 use Rattle.gauge.specs.Small.{small-of}
 use Rattle.gauge.specs.Laws.{right-empty, right-out, right-in}

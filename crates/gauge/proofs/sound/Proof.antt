@@ -1,5 +1,4 @@
 -- `gauge::sound` meets its contract. Assumes nothing.
-use mathlib.Core.Path.{_≡_}
 use mathlib.Core.Bool.{_&&_}
 use borrow.Author.Needs.{needs}
 use lib.IntN.{pos}

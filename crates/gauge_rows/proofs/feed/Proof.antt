@@ -1,12 +1,12 @@
 -- `gauge_rows::feed` meets its contract: the places before k are filled. Assumes nothing.
 use Prim.Native.Nat.{_-_, _*_, _≤_}
-use mathlib.Core.Path.{_≡_, refl, _∙_, ap, sym, subst}
+use mathlib.Core.Path.{_≡_, refl, _∙_, ap}
 use native.Mathlib.Omega.{arith}
 use borrow.Author.Needs.{needs}
 use lib.ListN.{length}
 use Rattle.whole.specs.Row.{tab}
 use Rattle.gauge.specs.Gauge.{right}
-use Rattle.gauge.specs.State.{numbers, gaugeAt, flat, standsIn, fedFrom}
+use Rattle.gauge.specs.State.{numbers, flat, standsIn, fedFrom}
 use Rattle.little.specs.Written.{written}
 use Rattle.gauge_rows.specs.Bounds.{at-place}
 use Rattle.gauge_rows.specs.Chunks.{fedPlace, long-fed, fed-all, Chunked, chunked-start, chunked-more, chunked-end}

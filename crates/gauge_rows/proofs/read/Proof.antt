@@ -6,7 +6,7 @@ use borrow.Author.Needs.{needs}
 use lib.ListN.{length}
 use Rattle.whole.specs.Row.{tab}
 use Rattle.gauge.specs.Gauge.{right}
-use Rattle.gauge.specs.State.{reading, gaugeAt, flat}
+use Rattle.gauge.specs.State.{reading, flat}
 use Rattle.little.specs.Written.{written}
 use Rattle.gauge_rows.specs.Bounds.{at-place, right-small}
 use Rattle.gauge_rows.specs.Chunks.{readPlace, long-read, read-all, Chunked, chunked-start, chunked-more, chunked-end}

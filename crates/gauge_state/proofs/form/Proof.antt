@@ -1,5 +1,5 @@
 -- `gauge_state::form` meets its contract. Assumes nothing.
-use mathlib.Core.Path.{_≡_, sym, _∙_}
+use mathlib.Core.Path.{sym, _∙_}
 use borrow.Author.Needs.{needs}
 use Rattle.gauge_rows.specs.Passes.{passes}
 use Rattle.gauge_state.specs.Order.{form-12, form-14, form-0}

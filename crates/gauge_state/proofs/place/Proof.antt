@@ -1,19 +1,18 @@
 -- `gauge_state::place` meets its contract. Assumes nothing.
-use Prim.Native.Nat.{_+_, _*_, _-_, _≤_}
+use Prim.Native.Nat.{_*_, _-_, _≤_}
 use mathlib.Core.Path.{_≡_, sym, _∙_, ap}
 use mathlib.Core.List.{[]}
 use native.Mathlib.Omega.{arith}
 use borrow.Author.Needs.{needs}
 use lib.IntN.{pos}
 use lib.ListN.{length}
-use Rattle.rule.specs.Rows.{Row, lowest}
+use Rattle.rule.specs.Rows.{lowest}
 use Rattle.rule.specs.Refusals.{numberOf}
 use Rattle.rule.specs.Bytes.{rowBytes}
 use Rattle.answers.specs.Stages.{acceptance, leavesBytes}
 use Rattle.checks.specs.Numbers.{numbered}
-use Rattle.gauge.specs.declared.Gauge.{Gauge}
 use Rattle.gauge.specs.Gauge.{gaugeOf}
-use Rattle.gauge.specs.State.{stateLength, stateNumbers, numbers, gaugesIn, gaugesOf, stateRow, placeable, taken, free, withGauge}
+use Rattle.gauge.specs.State.{stateLength, stateNumbers, numbers, gaugesIn, gaugesOf, stateRow, placeable, taken, free}
 use Rattle.gauge_rows.specs.Passes.{passes}
 use Rattle.little.specs.Written.{written}
 use Rattle.gauge_state.specs.Order.{form-passed, place-passed}

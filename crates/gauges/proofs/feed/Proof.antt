@@ -1,7 +1,6 @@
 -- `gauges::feed` meets its contract. Assumes nothing.
 use mathlib.Core.Path.{_≡_, sym, _∙_, ap}
 use mathlib.Core.List.{[]}
-use native.Mathlib.Omega.{arith}
 use borrow.Author.Needs.{needs}
 use Rattle.rule.specs.Channel.{Channel}
 use Rattle.rule.specs.Counted.{counted}

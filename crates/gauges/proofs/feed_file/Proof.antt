@@ -1,12 +1,11 @@
 -- `gauges::feed_file` meets its contract. Assumes nothing.
-use Prim.Native.Nat.{_≤_}
 use mathlib.Core.Path.{_≡_, sym, _∙_, ap}
 use mathlib.Core.Bool.{false}
 use mathlib.Core.List.{[]}
 use native.Mathlib.Omega.{arith}
 use borrow.Author.Needs.{needs}
 use lib.ListN.{length, take}
-use Rattle.whole.specs.Row.{padded, length-padded, take-padded}
+use Rattle.whole.specs.Row.{length-padded, take-padded}
 use Rattle.rule.specs.File.{countOf, channelOf}
 use Rattle.answers.specs.Stages.{leavesBytes}
 use Rattle.checks.specs.Numbers.{numbered}

@@ -1,7 +1,6 @@
 -- `gauges::heights` meets its contract. Assumes nothing.
-use mathlib.Core.Path.{refl, sym, _∙_, ap}
+use mathlib.Core.Path.{refl, _∙_, ap}
 use native.Mathlib.Omega.{arith}
-use borrow.Author.Needs.{needs}
 use Rattle.whole.specs.Row.{padded}
 use Rattle.rule.specs.Channel.{lengths}
 use Rattle.rule.specs.Layout.{widths}

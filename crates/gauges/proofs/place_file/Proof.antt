@@ -1,18 +1,15 @@
 -- `gauges::place_file` meets its contract. Assumes nothing.
-use Prim.Native.Nat.{_≤_}
 use mathlib.Core.Path.{_≡_, sym, _∙_, ap}
 use mathlib.Core.Bool.{false}
 use mathlib.Core.List.{[]}
 use native.Mathlib.Omega.{arith}
 use borrow.Author.Needs.{needs}
-use lib.ListN.{length, take}
-use Rattle.whole.specs.Row.{padded, length-padded, take-padded}
-use Rattle.rule.specs.File.{countOf, channelOf}
+use Rattle.rule.specs.File.{countOf}
 use Rattle.answers.specs.Stages.{leavesBytes}
 use Rattle.checks.specs.Numbers.{numbered}
 use Rattle.form.specs.Reader.{fitsIn}
 use Rattle.opened.specs.Opened.{Opened, opened-of}
-use Rattle.gauges.specs.Files.{Held, held-by, length-heights}
+use Rattle.gauges.specs.Files.{Held, held-by}
 use Rattle.gauges.specs.Ways.{place-unread, place-read}
 use Rattle.gauges.proofs.place_file.Statement.{statement}
 use Rattle.gauges.proofs.place_file.Tie as tie
