@@ -34,8 +34,17 @@ enum {
 #endif
 
 /* Time weights, newest level first; the corrector's first is the trial's. */
-static const int64_t predictor[3] = {23, -16, 5};
-static const int64_t corrector[4] = {9, 19, -5, 1};
+struct weights {
+    int64_t predictor[3], corrector[4];
+};
+
+/* The weights of the first step, of the second, and of every later one. */
+enum { RUNGS = 3 };
+static const struct weights ladder[RUNGS] = {
+    {{12, 0, 0}, {12, 12, 0, 0}},
+    {{18, -6, 0}, {10, 16, -2, 0}},
+    {{23, -16, 5}, {9, 19, -5, 1}},
+};
 enum { PREDICTED = 12, CORRECTED = 24 };
 
 /* Filter weights: of the cells j-3 to j+4 about a face, and of a cell and
@@ -62,8 +71,8 @@ struct work {
     double p[CELLS], ratio[CELLS];
     int64_t bed[CELLS];
 
-    /* where every correction starts: e with the poured amount, and the
-       stored levels' part of the corrector's sums */
+    /* where every correction starts: e with the poured amount, and T times
+       the stored levels' part of the corrector's sums */
     int64_t start_e[CELLS], start_Q[CELLS], start_F[CELLS];
 
     /* the trial */
@@ -447,12 +456,24 @@ static inline int64_t weighted(const int64_t *weights, const int64_t *level, siz
     return weights[0] * level[0] + weights[1] * level[len] + weights[2] * level[2 * len];
 }
 
+/* T times the weights of a channel's next step, which the steps accepted so far choose. */
+static struct weights next_weights(const struct second_channel *channel, int64_t T)
+{
+    struct weights by = ladder[channel->accepted < RUNGS - 1 ? channel->accepted : RUNGS - 1];
+    for (size_t i = 0; i < 3; i++)
+        by.predictor[i] *= T;
+    for (size_t i = 0; i < 4; i++)
+        by.corrector[i] *= T;
+    return by;
+}
+
 /* Stage 0: forward sweep of the prediction. Keeps what later stages start
    from. */
 static unsigned predict(struct work *k, const struct second_channel *channel, const int64_t *s)
 {
     const struct divisor by_W = divisor(1000 * k->x * PREDICTED), by_V = divisor(1000 * PREDICTED);
-    const int64_t *Q = channel->Q.at, *F = channel->F.at, T = k->T;
+    const struct weights by = next_weights(channel, k->T);
+    const int64_t *Q = channel->Q.at, *F = channel->F.at;
     const size_t N = k->N;
     struct found found = {0};
     struct reduced before = {0, 0};
@@ -461,13 +482,13 @@ static unsigned predict(struct work *k, const struct second_channel *channel, co
     for (size_t j = 0; j < N; j++) {
         int64_t W = 0;
         if (j + 1 < N) {
-            int64_t n_W = T * weighted(predictor, Q + j, N - 1);
+            int64_t n_W = weighted(by.predictor, Q + j, N - 1);
             W = quick_quotient(QUOTIENT_AT(PREDICTED_W, n_W, by_W.d), by_W);
-            k->start_Q[j] = weighted(corrector + 1, Q + j, N - 1);
+            k->start_Q[j] = weighted(by.corrector + 1, Q + j, N - 1);
         }
-        int64_t n_V = T * weighted(predictor, F + j, N);
+        int64_t n_V = weighted(by.predictor, F + j, N);
         int64_t dV = quick_quotient(QUOTIENT_AT(PREDICTED_V, n_V, by_V.d), by_V);
-        k->start_F[j] = weighted(corrector + 1, F + j, N);
+        k->start_F[j] = weighted(by.corrector + 1, F + j, N);
         k->start_e[j] = channel->e.at[j] + s[j];
         put_e_V(k, j, k->start_e[j] + W_left - W, channel->V.at[j] + dV, &found);
         found.pivotless |= !reduce(k, j, &before);
@@ -481,15 +502,15 @@ static unsigned predict(struct work *k, const struct second_channel *channel, co
 static unsigned correct(struct work *k, const struct second_channel *channel, struct sums *sums)
 {
     const struct divisor by_W = divisor(1000 * k->x * CORRECTED), by_V = divisor(1000 * CORRECTED);
-    const int64_t T = k->T;
+    const int64_t trial = next_weights(channel, k->T).corrector[0];
     struct found found = {0};
     struct reduced before = {0, 0};
     struct sums over = {0, 0};
     int64_t W_left = 0;
     for (size_t j = 0; j < k->N; j++) {
-        int64_t n_W = T * (corrector[0] * k->Q[j] + k->start_Q[j]);
+        int64_t n_W = trial * k->Q[j] + k->start_Q[j];
         int64_t W = quick_quotient(QUOTIENT_AT(CORRECTED_W, n_W, by_W.d), by_W);
-        int64_t n_V = T * (corrector[0] * k->F[j] + k->start_F[j]);
+        int64_t n_V = trial * k->F[j] + k->start_F[j];
         int64_t dV = quick_quotient(QUOTIENT_AT(CORRECTED_V, n_V, by_V.d), by_V);
         int64_t e = k->start_e[j] + W_left - W;
         add_to(&over, (double)e, (double)k->e[GHOST + j]);

@@ -48,7 +48,8 @@ struct second_answer {
 /* Reads N, X, T, wanted, h, e, u; fills V, Q, F and sets accepted to 0. */
 struct second_answer second_make(struct second_channel *channel);
 
-/* One step, with the amount s poured into each cell. */
+/* One step, with the amount s poured into each cell. Its time weights are those of the
+   first step, of the second or of any later one, by the count of accepted steps alone. */
 struct second_answer second_step(struct second_channel *channel, struct second_read_row s);
 
 struct second_answer second_filter(struct second_channel *channel);

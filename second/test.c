@@ -218,53 +218,94 @@ static void moved_by_1(const struct work *k, const char *what)
     check_row(k->e + GHOST, due, 8, what);
 }
 
+/* Counts of accepted steps with the row of the ladder that each has. */
+static const struct {
+    uint64_t accepted;
+    size_t rung;
+} rungs[] = {{0, 0},   {1, 1},   {2, 2},     {3, 2},     {4, 2},     {5, 2},
+             {255, 2}, {256, 2}, {65536, 2}, {65537, 2}, {999998, 2}, {999999, 2}};
+enum { RUNG_COUNTS = sizeof rungs / sizeof *rungs };
+
+/* Still water of which so many steps are accepted. */
+static void still_after(struct rig *rig, size_t N, uint64_t accepted)
+{
+    still(rig, N);
+    rig->c.accepted = accepted;
+    rig->c.wanted = 1000000;
+}
+
 static void case_5_movement(void)
 {
     static struct work k;
     struct rig rig;
     struct sums sums;
-    still(&rig, 8);
-    rig.c.T = 100;
-    for (size_t j = 0; j < 21; j++)
-        rig.c.Q.at[j] = 12000000;
-    trial(&k, &rig);
-    check_number(predict(&k, &rig.c, rig.s.at), 0, "case 5 predicts");
-    moved_by_1(&k, "case 5, predicted");
-    for (size_t j = 0; j < 7; j++)
-        k.Q[j] = 12000000;
-    k.Q[7] = 0;
-    memset(k.F, 0, sizeof k.F);
-    check_number(correct(&k, &rig.c, &sums), 0, "case 5 corrects");
-    moved_by_1(&k, "case 5, corrected");
+    for (size_t i = 0; i < RUNG_COUNTS; i++) {
+        still_after(&rig, 8, rungs[i].accepted);
+        rig.c.T = 100;
+        for (size_t j = 0; j < 21; j++)
+            rig.c.Q.at[j] = 12000000;
+        trial(&k, &rig);
+        check_number(predict(&k, &rig.c, rig.s.at), 0, "case 5 predicts");
+        moved_by_1(&k, "case 5, predicted");
+        for (size_t j = 0; j < 7; j++)
+            k.Q[j] = 12000000;
+        k.Q[7] = 0;
+        memset(k.F, 0, sizeof k.F);
+        check_number(correct(&k, &rig.c, &sums), 0, "case 5 corrects");
+        moved_by_1(&k, "case 5, corrected");
+    }
 }
 
-/* The weights one by one: each level alone moves its share. */
+/* The weights one by one: each level alone moves its share, a hundred for 1/12 in the prediction
+   and fifty for 1/24 in a correction. */
 static void weights(void)
 {
-    static const int64_t predicted[3] = {2300, -1600, 500}, corrected[4] = {450, 950, -250, 50};
+    static const int64_t predicted[RUNGS][3] = {
+        {1200, 0, 0}, {1800, -600, 0}, {2300, -1600, 500}};
+    static const int64_t corrected[RUNGS][4] = {
+        {600, 600, 0, 0}, {500, 800, -100, 0}, {450, 950, -250, 50}};
     static struct work k;
     struct rig rig;
     struct sums sums;
-    for (size_t level = 0; level < 4; level++) {
-        still(&rig, 8);
-        rig.c.T = 100;
-        if (level > 0)
-            rig.c.Q.at[(level - 1) * 7 + 3] = INT64_C(12000000000);
-        if (level > 0)
-            rig.c.F.at[(level - 1) * 8 + 3] = 12000;
-        trial(&k, &rig);
-        check_number(predict(&k, &rig.c, rig.s.at), 0, "weights predict");
-        if (level > 0) {
-            check_number(k.e[GHOST + 4], predicted[level - 1], "predictor's weight on Q");
-            check_number(k.V[3], predicted[level - 1], "predictor's weight on F");
+    for (size_t i = 0; i < RUNG_COUNTS; i++)
+        for (size_t level = 0; level < 4; level++) {
+            size_t rung = rungs[i].rung;
+            still_after(&rig, 8, rungs[i].accepted);
+            rig.c.T = 100;
+            if (level > 0)
+                rig.c.Q.at[(level - 1) * 7 + 3] = INT64_C(12000000000);
+            if (level > 0)
+                rig.c.F.at[(level - 1) * 8 + 3] = 12000;
+            trial(&k, &rig);
+            check_number(predict(&k, &rig.c, rig.s.at), 0, "weights predict");
+            if (level > 0) {
+                check_number(k.e[GHOST + 4], predicted[rung][level - 1], "predictor's weight on Q");
+                check_number(k.V[3], predicted[rung][level - 1], "predictor's weight on F");
+            }
+            memset(k.Q, 0, sizeof k.Q);
+            memset(k.F, 0, sizeof k.F);
+            k.Q[3] = level == 0 ? INT64_C(12000000000) : 0;
+            k.F[3] = level == 0 ? 12000 : 0;
+            check_number(correct(&k, &rig.c, &sums), 0, "weights correct");
+            check_number(k.e[GHOST + 4], corrected[rung][level], "corrector's weight on Q");
+            check_number(k.V[3], corrected[rung][level], "corrector's weight on F");
         }
-        memset(k.Q, 0, sizeof k.Q);
-        memset(k.F, 0, sizeof k.F);
-        k.Q[3] = level == 0 ? INT64_C(12000000000) : 0;
-        k.F[3] = level == 0 ? 12000 : 0;
-        check_number(correct(&k, &rig.c, &sums), 0, "weights correct");
-        check_number(k.e[GHOST + 4], corrected[level], "corrector's weight on Q");
-        check_number(k.V[3], corrected[level], "corrector's weight on F");
+}
+
+/* A flux of 12,000,000 in the newest level alone: 1.2, 1.8 and 2.3 before rounding. */
+static void newest_alone(void)
+{
+    static const int64_t due[RUNGS] = {1, 2, 2};
+    static struct work k;
+    struct rig rig;
+    for (size_t i = 0; i < RUNG_COUNTS; i++) {
+        still_after(&rig, 8, rungs[i].accepted);
+        rig.c.T = 100;
+        rig.c.Q.at[3] = 12000000;
+        trial(&k, &rig);
+        check_number(predict(&k, &rig.c, rig.s.at), 0, "the newest level predicts");
+        check_number(k.e[GHOST + 3], -due[rungs[i].rung], "W of the newest level, left of the face");
+        check_number(k.e[GHOST + 4], due[rungs[i].rung], "W of the newest level, right of it");
     }
 }
 
@@ -536,17 +577,20 @@ static void outside(struct rig *rig, int row, size_t place, const char *what)
         refused(rig, MAKE, number, 0, (unsigned)place, what);
 }
 
-/* A value at its bounds and beyond them, in one place. */
-static void value(int row, size_t level, size_t place)
+/* A value at its bounds and beyond them, in one place, after so many accepted steps: the levels
+   whose weight is 0 there have their ranges too. */
+static void value(int row, size_t level, size_t place, uint64_t accepted)
 {
     const int64_t beyond[4] = {low[row] - 1, high[row] + 1, INT64_MIN, INT64_MAX};
     struct rig rig;
     for (int i = 0; i < 4; i++) {
         still(&rig, 8);
+        rig.c.accepted = accepted;
         *value_of(&rig, row, level, place) = beyond[i];
         outside(&rig, row, place, "a value outside");
     }
     still(&rig, 8);
+    rig.c.accepted = accepted;
     depths(&rig, 20000);
     rig.c.X = 5000;
     *value_of(&rig, row, level, place) = high[row];
@@ -562,7 +606,8 @@ static void values(void)
     for (int row = h_ROW; row <= s_ROW; row++)
         for (size_t level = 0; level < levels_of(row); level++)
             for (size_t place = 1; place <= places_of(&rig, row); place++)
-                value(row, level, place);
+                for (uint64_t accepted = 0; accepted <= 3; accepted++)
+                    value(row, level, place, accepted);
     rig.c.V.at[0] = rig.c.Q.at[0] = rig.c.F.at[0] = INT64_MIN;
     check_accepted(call(&rig, MAKE), 0, "make does not read what it fills");
 }
@@ -817,48 +862,79 @@ static void filter_refusals(void)
     refused(&rig, FILTER, 4, 0, 8, "filtered water too low in cells 8 and 24");
 }
 
-/* Made channels of 8 cells whose first step is refused above stage 0. */
+/* Made channels of 8 cells whose first step is refused above stage 0, or settles late, and how that
+   step ends by each row of the ladder: with the count set to 0, 1 and 2. */
 static void later_stages(void)
 {
     static const struct {
         uint64_t X, T;
         int64_t h, e[8], u[8];
-        unsigned number, stage, place;
+        struct second_answer due[RUNGS];
     } at[] = {
-        {10, 50, 10, {4494, 414}, {-7218, 5508, -7455, 3669, -9009, 6381, 8769, -9524}, 10, 10, 0},
+        {10, 50, 10, {4494, 414}, {-7218, 5508, -7455, 3669, -9009, 6381, 8769, -9524},
+         {{10, 10, 0, 0}, {10, 10, 0, 0}, {10, 10, 0, 0}}},
         {1000, 20, 5000, {0, 292290, -415091, 0, 0, 0, 0, -308990},
-         {2882414, -2668180, -1242015, -12196983, -9260103, 7221815, -11060090, 2139932}, 4, 1, 5},
+         {2882414, -2668180, -1242015, -12196983, -9260103, 7221815, -11060090, 2139932},
+         {{4, 1, 5, 0}, {4, 1, 5, 0}, {4, 1, 5, 0}}},
         {10, 100, 500, {0, -3888, -3872, 0, 0, 0, 3121, -3699},
-         {-85, 90, -73, -77, -53, -12, -56, 78}, 4, 2, 3},
-        {10, 50, 500, {0, -33314, 0, 0, -38187, 30469, 38982, 0}, {0}, 4, 3, 5},
-        {10, 50, 500, {-4413, -2037, 3410, 817, 453, -2259, -1858, 1532}, {0}, 4, 9, 8},
+         {-85, 90, -73, -77, -53, -12, -56, 78}, {{4, 2, 3, 0}, {4, 2, 3, 0}, {4, 2, 3, 0}}},
+        {10, 50, 500, {0, -33314, 0, 0, -38187, 30469, 38982, 0}, {0},
+         {{4, 3, 2, 0}, {4, 3, 5, 0}, {4, 3, 5, 0}}},
+        {10, 50, 500, {-4413, -2037, 3410, 817, 453, -2259, -1858, 1532}, {0},
+         {{4, 7, 1, 0}, {4, 7, 6, 0}, {4, 9, 8, 0}}},
         {20, 100, 50, {30726, 33289, 0, 0, 0, 4282, 0, -29261},
-         {30, -64, 58, -73, 97, 54, -31, -87}, 4, 10, 2},
+         {30, -64, 58, -73, 97, 54, -31, -87}, {{4, 3, 3, 0}, {4, 6, 2, 0}, {4, 10, 2, 0}}},
+        {50, 50, 5000, {0, 0, 1071}, {93, -46, 2, -75, 66, -10, 6, 53},
+         {{4, 10, 2, 0}, {10, 10, 0, 0}, {10, 10, 0, 0}}},
+        {10, 100, 10, {0, 0, 0, 2213, 0, 1947}, {0},
+         {{4, 7, 2, 0}, {4, 10, 4, 0}, {10, 10, 0, 0}}},
         {20, 1, 10, {3969, 2306, 0, 0, 0, 4398, 0, -4457},
-         {-14100142, -2556690, -3845716, -8777915, -1990699, -5699096, -4790484, 7074583}, 7, 1, 0},
+         {-14100142, -2556690, -3845716, -8777915, -1990699, -5699096, -4790484, 7074583},
+         {{7, 1, 0, 0}, {7, 1, 0, 0}, {7, 1, 0, 0}}},
         {20, 1, 2, {0, 0, 0, -26, 0, -128, 0, 394},
          {18057431, -9006633, -11442814, -11338770, -1598944, -6858255, -4886606, -4148215},
-         7, 2, 0},
+         {{4, 1, 3, 0}, {7, 1, 0, 0}, {7, 2, 0, 0}}},
         {1000, 50, 50, {0, 0, 0, -18, 0, 0, 0, -229},
          {10376563, 9078151, -10657749, 16769997, -10842855, 18551028, -12202074, 11668317},
-         7, 4, 0},
-        {20, 100, 20000, {37313, 75026, -101476, 0, 0, 0, 105057, -126512}, {0}, 8, 1, 0},
-        {10, 5, 20000, {0, 4723546, 2865440, 0, -7277654, -853775, 0, -9896626}, {0}, 8, 5, 0},
+         {{7, 1, 0, 0}, {7, 2, 0, 0}, {7, 4, 0, 0}}},
+        {500, 20, 10, {0, 0, 20, -3, 0, 0, 0, 10},
+         {2586742, 1922630, 13969422, -7735603, -19743122, 2528746, -4844212, -6208039},
+         {{7, 4, 0, 0}, {0, 0, 0, 8}, {0, 0, 0, 7}}},
+        {1000, 50, 50, {2019, 8887, 5467, 1384, 2541, 0, -772},
+         {-5712632, 11238844, 1256389, 12286878, -10042764, 1546654, 7362928, 10340822},
+         {{7, 2, 0, 0}, {7, 4, 0, 0}, {0, 0, 0, 8}}},
+        {20, 100, 20000, {37313, 75026, -101476, 0, 0, 0, 105057, -126512}, {0},
+         {{8, 1, 0, 0}, {8, 1, 0, 0}, {8, 1, 0, 0}}},
+        {10, 5, 20000, {0, 4723546, 2865440, 0, -7277654, -853775, 0, -9896626}, {0},
+         {{8, 1, 0, 0}, {8, 5, 0, 0}, {8, 5, 0, 0}}},
         {100, 50, 20000, {10307233, 0, -651964, -13517750, 0, 3623212, 0, 0},
-         {60, 77, -47, -73, 25, -41, -82, -41}, 8, 10, 0},
-        {20, 100, 20000, {0, -52574, -46709, 52539, 0, 89025, 101402, 0}, {0}, 9, 2, 0},
+         {60, 77, -47, -73, 25, -41, -82, -41}, {{8, 2, 0, 0}, {8, 4, 0, 0}, {8, 10, 0, 0}}},
+        {100, 50, 20000, {0, 0, -38510, 0, 2185, 0, 8391, 13009},
+         {27, -30, -42, -18, 14, 97, -52, -98}, {{8, 6, 0, 0}, {8, 10, 0, 0}, {10, 10, 0, 0}}},
+        {200, 100, 20000, {0, 18392, 0, 0, 45133}, {-7, 62, -70, -57, 13, -67, -67, -35},
+         {{8, 10, 0, 0}, {10, 10, 0, 0}, {10, 10, 0, 0}}},
+        {20, 100, 20000, {0, -52574, -46709, 52539, 0, 89025, 101402, 0}, {0},
+         {{8, 1, 0, 0}, {8, 1, 0, 0}, {9, 2, 0, 0}}},
+        {20, 100, 20000, {-79650, -17937, 26359, -51617, 0, 0, -20441}, {0},
+         {{9, 2, 0, 0}, {9, 2, 0, 0}, {8, 3, 0, 0}}},
     };
     struct rig rig;
-    for (size_t i = 0; i < sizeof at / sizeof *at; i++) {
-        still(&rig, 8);
-        rig.c.X = at[i].X;
-        rig.c.T = at[i].T;
-        depths(&rig, at[i].h);
-        memcpy(rig.c.e.at, at[i].e, sizeof at[i].e);
-        memcpy(rig.c.u.at, at[i].u, sizeof at[i].u);
-        check_accepted(call(&rig, MAKE), 0, "a later stage's channel is made");
-        refused(&rig, STEP, at[i].number, at[i].stage, at[i].place, "a later stage");
-    }
+    for (size_t i = 0; i < sizeof at / sizeof *at; i++)
+        for (size_t rung = 0; rung < RUNGS; rung++) {
+            const struct second_answer *due = &at[i].due[rung];
+            still(&rig, 8);
+            rig.c.X = at[i].X;
+            rig.c.T = at[i].T;
+            depths(&rig, at[i].h);
+            memcpy(rig.c.e.at, at[i].e, sizeof at[i].e);
+            memcpy(rig.c.u.at, at[i].u, sizeof at[i].u);
+            check_accepted(call(&rig, MAKE), 0, "a later stage's channel is made");
+            rig.c.accepted = rung;
+            if (due->number)
+                refused(&rig, STEP, due->number, due->stage, due->place, "a later stage");
+            else
+                check_accepted(call(&rig, STEP), due->count, "a step that settles late");
+        }
 }
 
 /* A sloping channel through make, three poured steps and a filter. */
@@ -873,29 +949,29 @@ static void whole_calls(void)
                                  -37921842703, 10066676148, -183906133,  46579971};
     static const int64_t F[9] = {-17658, -71609, -400839, -804149, 25246,
                                  825270, 374742, 61476,   19293};
-    static const int64_t stepped_e[9] = {787, 1704, -3264, 27672, 44885, 14529, 4802, 1028, -183};
-    static const int64_t stepped_u[9] = {-741, -2815, 6678, 39227, -30240, 7107, 5429, 3318, 1060};
-    static const int64_t stepped_V[9] = {1826,   -58106, -96216, 491666, -485643,
-                                         167448, 7081,   3223,   349};
+    static const int64_t stepped_e[9] = {788, 1708, -3256, 27666, 44870, 14528, 4806, 1031, -181};
+    static const int64_t stepped_u[9] = {-739, -2809, 6672, 39216, -30231, 7113, 5424, 3317, 1060};
+    static const int64_t stepped_V[9] = {1818,   -58020, -96255, 491541, -485530,
+                                         167481, 7021,   3230,   350};
     static const int64_t stepped_Q[24] = {
-        -5749754440,  -11176397885, 47338328396, 5206569707,  -32822922138, 17122001270,
-        3571985927,   1653482645,   -5485190616, -9886864322, 50275164650,  6643559651,
-        -34743823609, 14765308772,  2379288485,  1115296838,  -5121334064,  -8552328939,
-        52972048583,  8042280294,   -36463022280, 12407031834, 1129474361,  579606479};
-    static const int64_t stepped_F[27] = {-40242,  193908,  -535937,  -1213649, 367619,  960684,
-                                          205925,  82329,   19348,    -31985,   106996,  -493303,
-                                          -1082696, 254427, 920715,   263306,   74439,   19147,
-                                          -24484,  18325,   -448276,  -946176,  140045,  875737,
-                                          319856,  67437,   19091};
-    static const int64_t filtered_e[9] = {1767, -1005, -488, 27603, 41758, 18172, 2871, 1496, -214};
-    static const int64_t filtered_u[9] = {-808,  -5637, 15709, 23686, -12602,
-                                          -5435, 10982, 1796,  1237};
-    static const int64_t filtered_V_due[9] = {14574,  -130832, 82773,  218258, -200643,
-                                              -39920, 111300,  -31479, 8023};
-    static const int64_t filtered_Q[8] = {-11530676912, -558080008, 37706975454, 6224710530,
-                                          -24479101023, 6923042262, 10101721107, -728669294};
-    static const int64_t filtered_F[9] = {74190,  143680, -618905, -1040657, 256740,
-                                          932295, 298835, 20631,   40242};
+        -5740096009,  -11172864332, 47319395077, 5204561489,  -32806469833, 17120374213,
+        3566099202,   1654205762,   -5476430080, -9883378273, 50254639159,  6641074308,
+        -34727060329, 14763689603,  2373663960,  1115120043,  -5107783021,  -8548622773,
+        52938384015,  8037591202,   -36435112420, 12408542492, 1122788083,  579153040};
+    static const int64_t stepped_F[27] = {-40307,  193702,  -535726,  -1213066, 367477,  960216,
+                                          205876,  82391,   19371,    -32053,   106816,  -493089,
+                                          -1082166, 254289, 920273,   263253,   74501,   19170,
+                                          -24530,  18187,   -448025,  -945586,  139993,  875174,
+                                          319660,  67542,   19140};
+    static const int64_t filtered_e[9] = {1767, -999, -481, 27596, 41745, 18170, 2875, 1499, -212};
+    static const int64_t filtered_u[9] = {-805,  -5632, 15702, 23676, -12596,
+                                          -5429, 10978, 1793,  1237};
+    static const int64_t filtered_V_due[9] = {14599,  -130767, 82726,  218168, -200568,
+                                              -39873, 111249,  -31487, 8035};
+    static const int64_t filtered_Q[8] = {-11520187239, -556935618, 37689496388, 6221530763,
+                                          -24465746498, 6923654112, 10095259170, -729554786};
+    static const int64_t filtered_F[9] = {74036,  143473, -618606, -1040161, 256600,
+                                          931883, 298753, 20696,   40265};
     struct rig rig;
     still(&rig, 9);
     rig.c.X = 250;
@@ -914,7 +990,7 @@ static void whole_calls(void)
     check_accepted(call(&rig, STEP), 2, "first step");
     check_row(rig.c.Q.at + 8, Q, 8, "Q moved down");
     check_row(rig.c.F.at + 18, F, 9, "F moved down");
-    check_accepted(call(&rig, STEP), 2, "second step");
+    check_accepted(call(&rig, STEP), 1, "second step");
     check_accepted(call(&rig, STEP), 1, "third step");
     check(rig.c.accepted == 3, "accepted grows");
     check_row(rig.c.h.at, h, 9, "h stays");
@@ -931,6 +1007,142 @@ static void whole_calls(void)
     check_row(rig.c.Q.at + 8, stepped_Q + 8, 16, "older Q stay");
     check_row(rig.c.F.at, filtered_F, 9, "filtered F");
     check_row(rig.c.F.at + 9, stepped_F + 9, 18, "older F stay");
+}
+
+/* Water that slopes from wall to wall, at rest. */
+static void slope(struct rig *rig)
+{
+    still(rig, 16);
+    rig->c.X = 500;
+    rig->c.T = 50;
+    for (size_t j = 0; j < 16; j++)
+        rig->c.e.at[j] = 16000 - 1000 * (int64_t)j;
+    check_accepted(call(rig, MAKE), 0, "a slope is made");
+}
+
+/* Writes the channel to a file and reads it back into rows that held something else. */
+static void through_a_file(struct rig *rig)
+{
+    uint8_t bytes[24 + 64 * 16];
+    check_accepted(second_write(&rig->c, bytes, sizeof bytes), 0, "a slope is written");
+    still(rig, 16);
+    for (int row = h_ROW; row <= F_ROW; row++)
+        memset(row_of(rig, row).at, 0x33, row_of(rig, row).len * sizeof(int64_t));
+    check_accepted(second_read(bytes, sizeof bytes, &rig->c), 0, "a slope is read");
+}
+
+static void same_rows(const struct rig *rig, const struct rig *other, const char *what)
+{
+    for (int row = h_ROW; row <= F_ROW; row++)
+        check_row(row_of(rig, row).at, row_of(other, row).at, row_of(rig, row).len, what);
+    check(rig->c.accepted == other->c.accepted, what);
+}
+
+/* The first steps of the slope: in one piece, with a file between, and as a run. */
+static void first_steps(void)
+{
+    static const int64_t due[4][16] = {
+        {15971, 14987, 13996, 12998, 11999, 11000, 10000, 9000,
+         8000,  7000,  6000,  5001,  4002,  3004,  2013,  1029},
+        {15884, 14948, 13984, 12992, 11997, 10998, 10000, 9000,
+         8000,  7001,  6001,  5004,  4009,  3015,  2053,  1114},
+        {15742, 14883, 13963, 12981, 11992, 10996, 10000, 8999,
+         8001,  7002,  6004,  5009,  4020,  3036,  2118,  1254},
+        {15549, 14790, 13932, 12965, 11985, 10992, 9999, 8999,
+         8002,  7004,  6008,  5016,  4037,  3067,  2210, 1445},
+    };
+    struct rig rig, filed, ran;
+    slope(&rig);
+    slope(&filed);
+    for (size_t i = 0; i < 4; i++) {
+        check_accepted(call(&rig, STEP), 1, "a first step");
+        check_row(rig.c.e.at, due[i], 16, "the slope after it");
+        through_a_file(&filed);
+        check_accepted(call(&filed, STEP), 1, "a first step from a file");
+        same_rows(&filed, &rig, "the slope from a file");
+        slope(&ran);
+        ran.c.wanted = i + 1;
+        check_accepted(call(&ran, RUN), i + 1, "a run of the first steps");
+        same_rows(&ran, &rig, "the slope after a run");
+    }
+}
+
+/* A filter pass before a step changes the heights, and not the row of the ladder. */
+static void filtered_first_steps(void)
+{
+    static const int64_t before_first[16] = {15951, 15023, 13976, 13002, 11999, 11000, 10000, 9000,
+                                             8000,  7000,  6000,  5002,  3997,  3024,  1978,  1048};
+    static const int64_t before_second[16] = {15867, 14979, 13966, 12997, 11995, 10999,
+                                              10000, 9000,  8000,  7001,  6001,  5005,
+                                              4003,  3035,  2020,  1132};
+    static const int64_t before_third[16] = {15709, 14938, 13941, 12977, 11996, 10996, 10000, 9000,
+                                             8000,  7002,  6005,  5004,  4023,  3059,  2062,  1288};
+    struct rig rig;
+    slope(&rig);
+    check_accepted(call(&rig, FILTER), 0, "a filter pass before the first step");
+    check_accepted(call(&rig, STEP), 1, "the first step after it");
+    check_row(rig.c.e.at, before_first, 16, "and its heights");
+    slope(&rig);
+    check_accepted(call(&rig, STEP), 1, "the first step");
+    check_accepted(call(&rig, FILTER), 0, "a filter pass before the second step");
+    check_accepted(call(&rig, STEP), 1, "the second step after it");
+    check_row(rig.c.e.at, before_second, 16, "and its heights");
+    slope(&rig);
+    check_accepted(call(&rig, STEP), 1, "the first step");
+    check_accepted(call(&rig, FILTER), 0, "a filter pass");
+    check_accepted(call(&rig, FILTER), 0, "and another before the second step");
+    check_accepted(call(&rig, STEP), 1, "the second step after both");
+    check_accepted(call(&rig, FILTER), 0, "a filter pass before the third step");
+    check_accepted(call(&rig, STEP), 1, "the third step after it");
+    check_row(rig.c.e.at, before_third, 16, "and its heights");
+}
+
+/* A slope whose levels are all different, after so many accepted steps. */
+static void uneven_levels(struct rig *rig, uint64_t accepted)
+{
+    slope(rig);
+    rig->c.accepted = accepted;
+    rig->c.wanted = 1000000;
+    for (size_t j = 0; j < rig->c.Q.len; j++)
+        rig->c.Q.at[j] += 100000000 * ((int64_t)(j * j * 7 % 31) - 15);
+    for (size_t j = 0; j < rig->c.F.len; j++)
+        rig->c.F.at[j] += 1000 * ((int64_t)(j * j * 5 % 29) - 14);
+}
+
+/* Whether a step that leaves other levels leaves another trial: e, u and V. */
+static bool other_trial(const struct rig *rig, const struct rig *other)
+{
+    bool same = true;
+    for (int row = e_ROW; row <= V_ROW; row++)
+        same = same && !memcmp(row_of(rig, row).at, row_of(other, row).at,
+                               row_of(rig, row).len * sizeof(int64_t));
+    return !same;
+}
+
+/* The same rows after other counts: from the third step on nothing depends on the count, and each
+   row of the ladder leaves something else. A level whose weight is 0 may hold anything allowed. */
+static void counts_and_rows(void)
+{
+    struct rig by[RUNGS], rig;
+    for (size_t i = 0; i < RUNG_COUNTS; i++) {
+        size_t rung = rungs[i].rung;
+        uneven_levels(&rig, rungs[i].accepted);
+        check_number(call(&rig, STEP).number, 0, "a step of uneven levels");
+        check(rig.c.accepted == rungs[i].accepted + 1, "it is counted");
+        if (rungs[i].accepted == rung)
+            uneven_levels(&by[rung], rung), call(&by[rung], STEP);
+        rig.c.accepted = by[rung].c.accepted;
+        same_rows(&rig, &by[rung], "a step by the same row of the ladder");
+        for (size_t level = 0; level < 3; level++) {
+            uneven_levels(&rig, rungs[i].accepted);
+            rig.c.Q.at[15 * level + 7] = Q_MOST / 1000;
+            rig.c.F.at[16 * level + 7] = F_MOST / 1000;
+            check_number(call(&rig, STEP).number, 0, "a step with a level that stands out");
+            check(other_trial(&rig, &by[rung]) == (level <= rung), "it counts if it has a weight");
+        }
+    }
+    check(other_trial(&by[0], &by[1]) && other_trial(&by[0], &by[2]) && other_trial(&by[1], &by[2]),
+          "each row of the ladder leaves another trial");
 }
 
 /* The stored u is checked and otherwise not read by a step. */
@@ -963,8 +1175,8 @@ static void pouring(void)
 
 static void runs(void)
 {
-    static const int64_t e[8] = {0, -2000, -3000, -1000, 0, 0, -2000, 3000};
-    static const int64_t ran_e[8] = {2277, -2025, -1424, 2964, -1572, -4243, -877, -100};
+    static const int64_t e[8] = {-100000, 0, 0, 0, 400000, 100000, 0, 0};
+    static const int64_t ran_e[8] = {211413, 36002, 9428, -165256, 16486, 7650, 189594, 94683};
     struct rig rig;
     still(&rig, 8);
     rig.c.accepted = 3;
@@ -973,13 +1185,13 @@ static void runs(void)
     check_accepted(call(&rig, RUN), 0, "a run of what is complete");
     still(&rig, 8);
     rig.c.X = 20;
-    rig.c.T = 50;
+    rig.c.T = 5;
     rig.c.wanted = 40;
-    depths(&rig, 50);
+    depths(&rig, 5000);
     memcpy(rig.c.e.at, e, sizeof e);
     check_accepted(call(&rig, MAKE), 0, "a run's make");
-    check_answer(call(&rig, RUN), 10, 10, 0, 25, "a run that is refused a step");
-    check(rig.c.accepted == 25, "it keeps what was accepted");
+    check_answer(call(&rig, RUN), 10, 10, 0, 19, "a run that is refused a step");
+    check(rig.c.accepted == 19, "it keeps what was accepted");
     check_row(rig.c.e.at, ran_e, 8, "and the water of that");
     refused(&rig, STEP, 10, 10, 0, "the step it was refused");
 }
@@ -1470,6 +1682,7 @@ int main(void)
     case_4_plain_part();
     case_5_movement();
     weights();
+    newest_alone();
     case_6_dispersive_part();
     case_7_coefficients();
     case_8_dominance();
@@ -1495,6 +1708,9 @@ int main(void)
     filter_refusals();
     later_stages();
     whole_calls();
+    first_steps();
+    filtered_first_steps();
+    counts_and_rows();
     stored_u();
     pouring();
     runs();

@@ -1,6 +1,6 @@
 /* The library and the second program on the same calls: answers and every lent value equal to the bit.
-   usage: calls [CALLS]   prints how often each refusal, stage, k, tie and place occurred, all of which must, and last
-                          'N passed, M failed'
+   usage: calls [CALLS]   prints how often each refusal, stage, k, tie, place and start occurred, all of which must, and
+                          last 'N passed, M failed'
           calls CALLS some   the same calls, but too few of them for all of that to occur
           calls scenes COUNT   draws that many scenes with the second program alone, and prints the first three in
                                which each refusal occurs */
@@ -38,9 +38,16 @@ static bool same(struct answer a, struct answer b, const struct call *left, cons
 }
 
 /* How often each tie was met, and how many calls, up to ENOUGH, it decides: they leave something else when it is
-   rounded the other way. */
-enum { ENOUGH = 20 };
-static long ties_met[TIES], ties_decide[TIES];
+   rounded the other way. Those of a step's sums are told apart by its row of weights; a run's are together. */
+enum { ENOUGH = 20, OF_RUNS = RUNGS, GROUPS };
+static long ties_met[GROUPS][TIES], ties_decide[GROUPS][TIES];
+
+static bool is_weighed(int place) { return place < FILTERED_G; }
+
+static int group_of(enum kind kind, const struct call *c, int place)
+{
+    return !is_weighed(place) ? 0 : kind == STEP ? rung_of(c) : OF_RUNS;
+}
 
 /* The second program has done the call on c: it answered a and left this. */
 static void count_ties(enum kind kind, const struct call *c, struct answer a, const struct call *left)
@@ -49,11 +56,78 @@ static void count_ties(enum kind kind, const struct call *c, struct answer a, co
     long here[TIES];
     memcpy(here, ties, sizeof here);
     for (turned = 0; turned < TIES; turned++) {
-        ties_met[turned] += here[turned];
-        if (here[turned] && ties_decide[turned] < ENOUGH) {
+        int group = group_of(kind, c, place_of(turned));
+        ties_met[group][turned] += here[turned];
+        if (here[turned] && ties_decide[group][turned] < ENOUGH) {
             other = *c;
-            ties_decide[turned] += !same(a, second_does(kind, &other), left, &other);
+            ties_decide[group][turned] += !same(a, second_does(kind, &other), left, &other);
         }
+    }
+}
+
+/* The count of accepted steps that a step or a run starts from. One whose lowest byte alone is 0 or 1 is a later one
+   too, and the last before the wanted is one of the others. */
+enum { FROM_0, FROM_1, FROM_2, FROM_3, FROM_LATER, FROM_BYTE, FROM_LAST, STARTS };
+static const char *const starts[STARTS] = {"0", "1", "2", "3", "later", "256, 257..", "wanted - 1"};
+
+/* How often such a call was accepted, refused at stage 0 and refused at a correction; how often it came after a filter
+   pass; and how many, up to ENOUGH, each other row of weights makes end otherwise: the same rows with another count. */
+enum { ACCEPTED, REFUSED_AT_0, REFUSED_LATER, AFTER_FILTER, BY_ROW, ENDS = BY_ROW + RUNGS };
+static const char *const ends[ENDS] = {
+    "accepted", "refused at stage 0", "at a correction", "after a filter", "other by the first", "second", "third row",
+};
+static long started[KINDS][STARTS][ENDS], settled_from[STARTS][STAGES];
+static bool filtered; /* whether the call before, in the same scene, was an accepted filter pass */
+
+/* Whether a call starts from there. */
+static bool starts_from(const struct call *c, int start)
+{
+    switch (start) {
+    case FROM_LATER: return c->accepted > FROM_3;
+    case FROM_BYTE: return c->accepted > FROM_3 && c->accepted % 256 < RUNGS - 1;
+    case FROM_LAST: return c->accepted + 1 == c->wanted;
+    default: return c->accepted == (uint64_t)start;
+    }
+}
+
+/* Whether the answer to a call is one of its stages, and not one for its input. */
+static bool of_a_stage(const struct call *c, struct answer a)
+{
+    bool dry = false;
+    for (size_t j = 0; a.number == 4 && a.stage == 0 && j < c->N; j++)
+        dry = dry || dry_at(c, j);
+    return a.number == 0 || (a.number >= 6 && a.number <= 10) || (a.number == 4 && !dry);
+}
+
+/* Whether a call of the same rows that starts by another row of weights ends otherwise. As many steps are left. */
+static bool other_by(int rung, enum kind kind, const struct call *c, struct answer a, const struct call *left)
+{
+    static struct call other;
+    uint64_t more = c->wanted - c->accepted;
+    other = *c;
+    other.accepted = (uint64_t)rung;
+    other.wanted = more < 999000 ? more + other.accepted : 1000000;
+    struct answer b = second_does(kind, &other);
+    other.accepted = left->accepted, other.wanted = left->wanted;
+    return !same(a, b, left, &other);
+}
+
+/* Counts a step or a run by its start. */
+static void count_start(enum kind kind, const struct call *c, struct answer a, const struct call *left)
+{
+    int end = a.number == 0 ? ACCEPTED : a.stage == 0 ? REFUSED_AT_0 : REFUSED_LATER;
+    if ((kind != STEP && kind != RUN) || c->accepted >= c->wanted || !of_a_stage(c, a))
+        return;
+    for (int start = 0; start < STARTS; start++) {
+        if (!starts_from(c, start))
+            continue;
+        started[kind][start][end]++;
+        started[kind][start][AFTER_FILTER] += filtered;
+        if (kind == STEP && a.number == 0)
+            settled_from[start][a.count]++;
+        for (int rung = 0; rung < RUNGS; rung++)
+            if (rung != rung_of(c) && started[kind][start][BY_ROW + rung] < ENOUGH)
+                started[kind][start][BY_ROW + rung] += other_by(rung, kind, c, a, left);
     }
 }
 
@@ -74,7 +148,11 @@ static const char *const columns[COLUMNS] = {
 };
 static long placed[KINDS][NUMBERS][WHENS][COLUMNS];
 
+/* How often a step or a run was refused for a level that its first row of weights has no weight for. */
+static long unweighed[KINDS][NUMBERS][RUNGS];
+
 static bool has_place(uint64_t number) { return number == 4 || number == 5 || number > 30; }
+static bool has_levels(int number) { return number == 35 || number == 36; }
 
 static void count_place(long *at, uint64_t place, size_t places)
 {
@@ -82,11 +160,14 @@ static void count_place(long *at, uint64_t place, size_t places)
 }
 
 /* Counts a refusal of the input for the first row at fault. */
-static void count_input(enum kind kind, const struct searched *told, const struct searched *end, struct answer a)
+static void count_input(enum kind kind, const struct call *c, const struct searched *told, const struct searched *end,
+                        struct answer a)
 {
     long *at = placed[kind][a.number][INPUT];
     bool later = false, level = false, older = false;
     long faults = faults_in(told);
+    if (has_levels((int)a.number) && told->level > rung_of(c))
+        unweighed[kind][a.number][rung_of(c)]++;
     at[ROW_SEVERAL] += faults > 1;
     for (const struct searched *s = told + 1; s < end; s++) {
         uint64_t place = lowest_of(s);
@@ -124,7 +205,7 @@ static bool count_places(enum kind kind, const struct call *c, struct answer a, 
     while (told < end && !lowest_of(told))
         told++;
     if (told < end) {
-        count_input(kind, told, end, a);
+        count_input(kind, c, told, end, a);
         return a.number == told->number && a.place == lowest_of(told) && a.stage == 0 && a.count == 0;
     }
     if (a.number == 4)
@@ -140,8 +221,10 @@ static struct answer compare(enum kind kind, struct call *c)
     memset(ties, 0, sizeof ties);
     struct answer b = second_does(kind, &theirs), a = alone ? b : library_does(kind, &mine);
     bool right = alone || count_places(kind, c, b, &theirs);
-    if (!alone)
+    if (!alone) {
         count_ties(kind, c, b, &theirs);
+        count_start(kind, c, b, &theirs);
+    }
     if (alone || (right && same(a, b, &mine, &theirs))) {
         passed++;
     } else if (failed++ < 10) {
@@ -165,13 +248,16 @@ static struct answer compare(enum kind kind, struct call *c)
     } else if (kind == STEP) {
         settled_at[b.count]++;
     }
+    filtered = kind == FILTER && b.number == 0;
     *c = theirs;
     return b;
 }
 
-/* Some calls in a row on the channel that is there. */
+/* Some calls in a row on the channel that is there, from any count of accepted steps. */
 static void go_on(struct call *c)
 {
+    if (one_in(2))
+        c->accepted = open_start(c->wanted);
     for (int i = 0; i < 4; i++) {
         enum kind kind = one_in(5) ? FILTER : one_in(12) ? RUN : STEP;
         if (kind == RUN && c->wanted - c->accepted > 40)
@@ -185,13 +271,19 @@ static void go_on(struct call *c)
 
 static void one_scene(struct call *c)
 {
+    uint64_t from;
     switch (draw() % 22) {
     case 0: reduced_halves(c); compare(MAKE, c); break;
     case 1: flux_halves(c); compare(MAKE, c); break;
     case 2: velocity_halves(c); compare(STEP, c); break;
     case 3:
-        if (just_too_much(c) && !compare(MAKE, c).number)
-            compare(STEP, c);
+        if (!just_too_much(c))
+            break;
+        from = c->accepted;
+        if (compare(MAKE, c).number)
+            break;
+        c->accepted = from;
+        compare(STEP, c);
         break;
     case 4: case 5: case 6: case 7:
         violent(c);
@@ -209,7 +301,7 @@ static void one_scene(struct call *c)
         break;
     case 12:
         if (moved_halves(c))
-            compare(STEP, c);
+            compare(one_in(4) ? RUN : STEP, c);
         break;
     case 13: filtered_halves(c); compare(FILTER, c); break;
     case 14: flow_halves(c); compare(MAKE, c); break;
@@ -233,6 +325,7 @@ static void one_scene(struct call *c)
 static void fault_scene(struct call *c, uint64_t i)
 {
     state = i * 0xDA942042E4DD58B5u;
+    filtered = false;
     enum kind kind = (enum kind)(draw() % KINDS);
     if (kind != MAKE && one_in(5))
         drying(c, kind);
@@ -280,7 +373,7 @@ static bool place_occurs(enum kind kind, int number, int when, int column)
         return false;
     if (when != INPUT)
         return number == 4 && kind != MAKE && column <= SEVERAL;
-    return column <= ROW_SEVERAL || (column == LATER_LOWER ? number != 5 : number == 35 || number == 36);
+    return column <= ROW_SEVERAL || (column == LATER_LOWER ? number != 5 : has_levels(number));
 }
 
 /* The places of every refusal that has one. */
@@ -319,6 +412,71 @@ static bool places_seen(void)
     return all;
 }
 
+/* Whether steps or runs must have been met so: by its own row a call ends as it does. */
+static bool start_occurs(int start, int end)
+{
+    return end < BY_ROW || start == FROM_LAST || end - BY_ROW != (start < RUNGS ? start : RUNGS - 1);
+}
+
+/* Steps and runs by the count that they start from. */
+static void print_starts(void)
+{
+    printf("%-24s", "steps and runs, starts");
+    for (int end = 0; end < ENDS; end++)
+        printf("  %s", ends[end]);
+    printf("\n");
+    for (int kind = STEP; kind <= RUN; kind += RUN - STEP)
+        for (int start = 0; start < STARTS; start++) {
+            printf("%-6s from %-13s", names[kind], starts[start]);
+            for (int end = 0; end < ENDS; end++)
+                if (start_occurs(start, end))
+                    printf("  %*ld", (int)strlen(ends[end]), started[kind][start][end]);
+                else
+                    printf("  %*s", (int)strlen(ends[end]), "");
+            printf("\n");
+        }
+    printf("%-24s", "steps settled at");
+    for (int k = 1; k <= 10; k++)
+        printf("%8d", k);
+    printf("\n");
+    for (int start = 0; start < STARTS; start++) {
+        printf("step   from %-12s", starts[start]);
+        for (int k = 1; k <= 10; k++)
+            printf("%8ld", settled_from[start][k]);
+        printf("\n");
+    }
+    for (int kind = STEP; kind <= RUN; kind += RUN - STEP)
+        for (int number = 35; has_levels(number); number++)
+            printf("%-6s refused %d for a level of weight 0: from 0 %ld, from 1 %ld\n", names[kind], number,
+                   unweighed[kind][number][0], unweighed[kind][number][1]);
+}
+
+static bool starts_seen(void)
+{
+    bool all = true;
+    for (int kind = STEP; kind <= RUN; kind += RUN - STEP) {
+        for (int start = 0; start < STARTS; start++)
+            for (int end = 0; end < ENDS; end++)
+                if (start_occurs(start, end) && !started[kind][start][end]) {
+                    printf("no %s from %s: %s\n", names[kind], starts[start], ends[end]);
+                    all = false;
+                }
+        for (int number = 35; has_levels(number); number++)
+            for (int rung = 0; rung < RUNGS - 1; rung++)
+                if (!unweighed[kind][number][rung]) {
+                    printf("no %s from %d was refused %d for a level of weight 0\n", names[kind], rung, number);
+                    all = false;
+                }
+    }
+    for (int start = 0; start < STARTS; start++)
+        for (int k = 1; k <= 10; k++)
+            if (!settled_from[start][k]) {
+                printf("no step from %s settled at correction %d\n", starts[start], k);
+                all = false;
+            }
+    return all;
+}
+
 static const char *const places[PLACES] = {
     "W predicted", "W corrected", "V's quotient predicted", "V's quotient corrected", "G of the filter",
     "V of the filter", "plain part", "F", "dispersive part", "u", "V of make",
@@ -326,8 +484,12 @@ static const char *const places[PLACES] = {
 static const char *const nears[NEARS] = {"", ", float smaller than its half", ", float larger than its half"};
 static const char *const sides[4] = {"+ even", "+ odd", "- even", "- odd"};
 
-/* What a place can have: a quotient is worked out exactly. */
+static const char *const groups[GROUPS] = {", by the first row", ", by the second", ", by the third", ", of runs"};
+
+/* What a place can have: a quotient is worked out exactly; one that is weighed is told apart by its weights. */
 static int nears_of(int place) { return place < DISPERSIVE ? 1 : NEARS; }
+static int groups_of(int place) { return is_weighed(place) ? GROUPS : 1; }
+static const char *kind_of(int place, int near, int group) { return is_weighed(place) ? groups[group] : nears[near]; }
 
 /* The ties of every place, by sign and by the neighbour towards zero: how many were met, and how many calls they
    decide. */
@@ -338,14 +500,15 @@ static void print_ties(void)
         printf("%12s", sides[side]);
     printf("\n");
     for (int place = 0; place < PLACES; place++)
-        for (int near = 0; near < nears_of(place); near++) {
-            printf("%s%-*s", places[place], 45 - (int)strlen(places[place]), nears[near]);
-            for (int side = 0; side < 4; side++) {
-                int tie = tie_of(place, near, side / 2, side % 2);
-                printf("%9ld%3ld", ties_met[tie], ties_decide[tie]);
+        for (int near = 0; near < nears_of(place); near++)
+            for (int group = 0; group < groups_of(place); group++) {
+                printf("%s%-*s", places[place], 45 - (int)strlen(places[place]), kind_of(place, near, group));
+                for (int side = 0; side < 4; side++) {
+                    int tie = tie_of(place, near, side / 2, side % 2);
+                    printf("%9ld%3ld", ties_met[group][tie], ties_decide[group][tie]);
+                }
+                printf("\n");
             }
-            printf("\n");
-        }
 }
 
 /* Each tie must have decided a call: to be met is not enough. */
@@ -354,11 +517,13 @@ static bool ties_seen(void)
     bool all = true;
     for (int place = 0; place < PLACES; place++)
         for (int near = 0; near < nears_of(place); near++)
-            for (int side = 0; side < 4; side++)
-                if (!ties_decide[tie_of(place, near, side / 2, side % 2)]) {
-                    printf("no call was decided by a tie of %s%s, %s\n", places[place], nears[near], sides[side]);
-                    all = false;
-                }
+            for (int group = 0; group < groups_of(place); group++)
+                for (int side = 0; side < 4; side++)
+                    if (!ties_decide[group][tie_of(place, near, side / 2, side % 2)]) {
+                        printf("no call was decided by a tie of %s%s, %s\n", places[place], kind_of(place, near, group),
+                               sides[side]);
+                        all = false;
+                    }
     return all;
 }
 
@@ -367,12 +532,13 @@ static void scene_number(struct call *c, uint64_t i)
 {
     state = i * 0xD1342543DE82EF95u;
     scene_here = i;
+    filtered = false;
     one_scene(c);
 }
 
 /* Scenes whose ends are rare: 9 late in a step, in a filter pass and in a run. */
-static const uint64_t rare[] = {68412,  69873,  71182,  88259,  96119,  96844, 98678,
-                                109900, 133842, 177779, 188444, 289940, 333617};
+static const uint64_t rare[] = {49551, 51669, 57242, 59386, 68038, 71182, 71648, 164859, 179809,
+                                184059, 216210, 223569, 239610, 279000, 320510, 351732, 520092};
 
 int main(int argc, char **argv)
 {
@@ -402,10 +568,13 @@ int main(int argc, char **argv)
     for (int k = 1; k <= 10; k++)
         printf("step settled at correction %2d: %8ld\n", k, settled_at[k]);
     print_places();
+    print_starts();
     print_ties();
     if (!some && !seen())
         failed++;
     if (!some && !places_seen())
+        failed++;
+    if (!some && !starts_seen())
         failed++;
     if (!some && !ties_seen())
         failed++;

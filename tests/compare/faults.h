@@ -3,7 +3,7 @@
 #ifndef FAULTS_H
 #define FAULTS_H
 
-#include "scenes.h"
+#include "ladder.h"
 
 static const struct {
     int64_t low, high;
@@ -72,8 +72,8 @@ static void faulty(struct call *c, enum kind kind)
     int64_t count = PICK(1, 1, 2, 3, 4);
     int fault = any_fault(kind);
     lengths(c, one_in(6) ? (size_t)PICK(255, 256) : (size_t)between(8, 14));
-    c->X = (uint64_t)X, c->T = (uint64_t)between(1, 100), c->wanted = (uint64_t)between(1, 3);
-    c->accepted = one_in(3) ? c->wanted : 0;
+    c->X = (uint64_t)X, c->T = (uint64_t)between(1, 100), c->wanted = (uint64_t)between(1, 5);
+    c->accepted = one_in(3) ? c->wanted : open_start(c->wanted);
     for (size_t j = 0; j < c->N; j++) {
         c->row[ROW_h][j] = depth;
         c->row[ROW_e][j] = between(-heights, heights);
@@ -94,16 +94,19 @@ static void faulty(struct call *c, enum kind kind)
 }
 
 /* Water of which some cells are as low as allowed, and fall dry: in a step by what is poured, by the prediction's
-   movement or by the first correction's, in a run by movement, in a filter pass by their neighbours. */
+   movement or by the first correction's, in a run by movement, in a filter pass by their neighbours. By the first row
+   of weights no levels move only in a correction. */
 static void drying(struct call *c, enum kind kind)
 {
     int64_t depth = between(1, 20000), high = magnitude(20000000), X = between(10, 5000), T = PICK(1, 10, 50, 100);
     int64_t unit = 1000000 * X / T; /* levels that are all one unit move 1 */
     bool poured = kind == STEP && one_in(2), late = one_in(2);
+    int rung;
     lengths(c, one_in(10) ? (size_t)between(8, 256) : (size_t)between(8, 14));
     for (int i = 0; i < ROWS; i++)
         memset(c->row[i], 0, c->len[i] * sizeof(int64_t));
-    c->X = (uint64_t)X, c->T = (uint64_t)T, c->wanted = 3, c->accepted = (uint64_t)between(0, 2);
+    c->X = (uint64_t)X, c->T = (uint64_t)T, c->wanted = 5, c->accepted = open_start(5);
+    rung = rung_of(c);
     for (size_t j = 0; j < c->N; j++) {
         c->row[ROW_h][j] = depth;
         c->row[ROW_e][j] = 1000 - 1000 * depth + (one_in(2) ? high : 0);
@@ -118,13 +121,15 @@ static void drying(struct call *c, enum kind kind)
             c->row[ROW_s][j] = -between(1, 1000000);
         else
             for (size_t level = 0; level < 3; level++)
-                c->row[ROW_Q][level * faces + face] = late ? (int64_t[]){0, -5, -16}[level] * moved * 8 / 3 : moved;
+                c->row[ROW_Q][level * faces + face] =
+                    late && rung > 0 ? late_levels[rung][level] * moved * 24 / trial_weight[rung] : moved;
     }
 }
 
 /* A row as it is searched for faults; the levels are three, and the water depths and the dominant rows two more. */
 struct searched {
     unsigned number;
+    int level;
     size_t len;
     bool at[CELLS];
 };
@@ -159,6 +164,7 @@ static void find_faults(enum kind kind, const struct call *c, struct searched *s
     for (int row = 0; row < ROWS; row++)
         for (size_t level = 0; level < levels_of(row); level++, s++) {
             s->number = 31 + (unsigned)row;
+            s->level = (int)level;
             s->len = reads(kind, row) ? c->len[row] / levels_of(row) : 0;
             for (size_t j = 0; j < s->len; j++)
                 s->at[j] = !in_range(row, c->row[row][level * s->len + j]);

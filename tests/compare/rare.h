@@ -3,12 +3,13 @@
 #ifndef RARE_H
 #define RARE_H
 
-#include "scenes.h"
+#include "ladder.h"
 #include "ties.h"
 
 /* Deep water over narrow cells, with a flux just in range and levels that move nothing: -5/7, -5/7 and 1 of its own Q
    and F, newest first, are 0 in the prediction's sum, and in a correction's they are -9 beside 9 of the trial's. What
-   still moves is u's rounding. */
+   still moves is u's rounding. These are levels for the third row of weights; the first has none, and those for the
+   second are out of range. */
 static bool at_the_brink(struct call *c)
 {
     static struct call trial;
@@ -35,6 +36,7 @@ static bool at_the_brink(struct call *c)
         c->row[ROW_u][j] = low * shape[j] / 1000;
     if (second_does(MAKE, c).number)
         return false;
+    c->accepted = (uint64_t)between(RUNGS - 1, 4);
     for (int i = ROW_Q; i <= ROW_F; i++)
         for (size_t j = 0; j < c->len[i] / 3 * 2; j++)
             c->row[i][j] = c->row[i][j] / 7 * -5;
@@ -43,23 +45,46 @@ static bool at_the_brink(struct call *c)
     return true;
 }
 
-/* Three levels of entry j: their sum is 12q in the prediction, and 15q + 9s in a correction, without the trial's. */
+/* Three levels of entry j, by the row of weights that the next step has: they move q in the prediction, and in a
+   correction s is weighed beside the trial's, and as that is. */
 static void put_levels(struct call *c, int row, size_t j, int64_t q, int64_t s)
 {
     size_t n = c->len[row] / 3;
-    c->row[row][j] = q;
-    c->row[row][n + j] = q - 5 * s;
-    c->row[row][2 * n + j] = q - 16 * s;
+    for (size_t level = 0; level < 3; level++)
+        c->row[row][level * n + j] = q + late_levels[rung_of(c)][level] * s;
+}
+
+/* By the first row of weights a correction is of the newest level and the trial's t alone, 12 of each over 24. Moves
+   the newest level of entry j to where that is a half, if it moves as much as before in the prediction. */
+static void move_newest(struct call *c, int row, size_t j, int64_t unit, int64_t t)
+{
+    int64_t *q = &c->row[row][j], W = (llabs(*q) + unit / 2) / unit * (*q < 0 ? -1 : 1);
+    int64_t off = (unit - t - W * unit) % (2 * unit);
+    off += off < -unit ? 2 * unit : off > unit ? -2 * unit : 0;
+    if (2 * llabs(off) < unit)
+        *q = W * unit + off;
+}
+
+/* Anything that is allowed, in the levels whose weight is 0. */
+static void any_unweighed(struct call *c)
+{
+    int64_t Q = magnitude(1000000000000000), F = magnitude(100000000000);
+    for (size_t j = (size_t)(rung_of(c) + 1) * (c->N - 1); j < c->len[ROW_Q]; j++)
+        c->row[ROW_Q][j] = between(-Q, Q);
+    for (size_t j = (size_t)(rung_of(c) + 1) * c->N; j < c->len[ROW_F]; j++)
+        c->row[ROW_F][j] = between(-F, F);
 }
 
 /* A step of nearly still water in which every W and quotient of V is exactly a half in the prediction, and about half
-   of them are in the first correction. Levels that are all one unit move 1. */
+   of them are in the first correction; by the first row of weights about a quarter are halves there instead. Levels
+   that are all one unit move 1. */
 static bool moved_halves(struct call *c)
 {
+    static const int64_t whole[RUNGS] = {0, 12, 8}; /* so many units, weighed as the trial's, move a whole number */
     int64_t depth = 1 + magnitude(19999), still = magnitude(19000000), noise = magnitude(30);
     int64_t T = PICK(10, 20, 25, 50, 100), unit[ROWS], trial[ROWS][10];
     lengths(c, (size_t)between(8, 10));
-    c->X = (uint64_t)(10 + magnitude(4990)), c->T = (uint64_t)T, c->wanted = 5, c->accepted = 0;
+    c->X = (uint64_t)(10 + magnitude(4990)), c->T = (uint64_t)T, c->wanted = 5, c->accepted = open_start(5);
     unit[ROW_Q] = 1000000 * (int64_t)c->X / T, unit[ROW_F] = 1000 / T;
     for (size_t j = 0; j < c->N; j++) {
         c->row[ROW_h][j] = depth;
@@ -74,9 +99,16 @@ static bool moved_halves(struct call *c)
     if (!predicted_levels(&channel, poured_of(c), trial[ROW_Q], trial[ROW_F]))
         return false;
     for (int i = ROW_Q; i <= ROW_F; i++)
-        for (size_t j = 0; j < c->len[i] / 3; j++)
+        for (size_t j = 0; j < c->len[i] / 3; j++) {
+            int64_t q = c->row[i][j], more = whole[rung_of(c)] * unit[i] * between(-1, 1);
             if (one_in(2))
-                put_levels(c, i, j, c->row[i][j], c->row[i][j] + 8 * unit[i] * between(-1, 1) - trial[i][j]);
+                continue;
+            if (rung_of(c) == 0)
+                move_newest(c, i, j, unit[i], trial[i][j]);
+            else
+                put_levels(c, i, j, q, q + more - trial[i][j]);
+        }
+    any_unweighed(c);
     return true;
 }
 

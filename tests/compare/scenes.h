@@ -92,6 +92,15 @@ static int64_t magnitude(int64_t top)
     return size < top ? size : top;
 }
 
+/* Steps accepted so far, and not all that are wanted: none, one, two, three and all but one are as likely, and counts
+   whose lowest bytes are 0 or 1. */
+static uint64_t open_start(uint64_t wanted)
+{
+    int64_t many = PICK(256, 257, 65536, 65537);
+    uint64_t from = (uint64_t)PICK(0, 1, 2, 3, (int64_t)wanted - 1, many);
+    return from < wanted ? from : wanted - 1;
+}
+
 static void lengths(struct call *c, size_t N)
 {
     c->N = N;
@@ -118,7 +127,7 @@ static void scene(struct call *c)
     c->X = (uint64_t)(10 + magnitude(4990));
     c->T = (uint64_t)(1 + magnitude(99));
     c->wanted = (uint64_t)(1 + magnitude(one_in(20) ? 999999 : 30));
-    c->accepted = one_in(3) ? (uint64_t)between(0, (int64_t)c->wanted) : 0;
+    c->accepted = one_in(6) ? (uint64_t)between(0, (int64_t)c->wanted) : open_start(c->wanted);
     for (size_t j = 0; j < N; j++) {
         int64_t h = depth + between(-uneven, uneven), turn = (int64_t)j % period * 2 - period;
         h = h < 1 ? 1 : h > 20000 ? 20000 : h;
@@ -201,7 +210,7 @@ static void velocity_halves(struct call *c)
     bool odd;
     lengths(c, 8);
     memset(c->row, 0, sizeof c->row);
-    c->X = 1000, c->T = 1, c->wanted = 9, c->accepted = 0;
+    c->X = 1000, c->T = 1, c->wanted = 9, c->accepted = open_start(9);
     do {
         for (int j = 0; j < 7; j++)
             D[j] = 2500 * (2 * between(-2, 1) + 1);
@@ -221,13 +230,15 @@ static void velocity_halves(struct call *c)
     }
 }
 
-/* A channel of deep water whose first step has a flux just out of range, at whichever stage. */
+/* A channel of deep water that, once it is made and so many of its steps are accepted, has a flux just out of range in
+   its next step, at whichever stage. */
 static bool just_too_much(struct call *c)
 {
     static struct call trial;
     int64_t low = 0, high = 20000000, shape[10];
     lengths(c, (size_t)between(8, 10));
-    c->X = (uint64_t)between(200, 3000), c->T = (uint64_t)PICK(1, 5, 20, 50, 100), c->wanted = 5, c->accepted = 0;
+    c->X = (uint64_t)between(200, 3000), c->T = (uint64_t)PICK(1, 5, 20, 50, 100);
+    c->wanted = 5, c->accepted = open_start(5);
     for (size_t j = 0; j < c->N; j++) {
         c->row[ROW_h][j] = 20000 - between(0, 40);
         c->row[ROW_e][j] = between(-5000000, 5000000);
@@ -239,7 +250,9 @@ static bool just_too_much(struct call *c)
         trial = *c;
         for (size_t j = 0; j < c->N; j++)
             trial.row[ROW_u][j] = speed * shape[j] / 1000;
-        if (second_does(MAKE, &trial).number || second_does(STEP, &trial).number)
+        bool made = !second_does(MAKE, &trial).number;
+        trial.accepted = c->accepted;
+        if (!made || second_does(STEP, &trial).number)
             high = speed;
         else
             low = speed;
@@ -258,7 +271,7 @@ static void violent(struct call *c)
     int64_t speeds = shallow ? magnitude(10000) : PICK(1000000, 20000000), heights = shallow ? magnitude(10000) : 100000;
     lengths(c, (size_t)between(8, 12));
     c->X = (uint64_t)(shallow ? PICK(50, 100, 200, 500) : PICK(100, 200, 500, 1000, 2000, 5000));
-    c->T = (uint64_t)PICK(20, 50, 100, 100), c->wanted = 100, c->accepted = 0;
+    c->T = (uint64_t)PICK(20, 50, 100, 100), c->wanted = (uint64_t)PICK(100, 280, 65550), c->accepted = 0;
     for (size_t j = 0; j < c->N; j++) {
         c->row[ROW_h][j] = depth - between(0, depth / 8);
         c->row[ROW_e][j] = wetted(c->row[ROW_h][j], between(-heights, heights));

@@ -23,6 +23,8 @@ static inline int tie_of(int place, int near, int negative, int odd)
     return ((place * NEARS + near) * 2 + negative) * 2 + odd;
 }
 
+static inline int place_of(int tie) { return tie / (NEARS * 2 * 2); }
+
 /* How often the second program met each since they were last set to 0. */
 extern long ties[TIES];
 

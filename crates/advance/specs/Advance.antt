@@ -15,7 +15,7 @@ use Rattle.rule.specs.Step as rule
 use Rattle.rule.specs.Calls.{Called}
 use Rattle.rows.specs.Firsts.{firsts}
 use Rattle.motion.specs.Asked.{Settling}
-use Rattle.motion.specs.Weights.{moving, weights, levelsOf}
+use Rattle.motion.specs.Weights.{moving, weightsOf, levelsOf}
 use Rattle.stage.specs.declared.Trial.{Trial}
 use Rattle.stage.specs.Trials.{trialOf}
 use Rattle.stage.specs.Asked.{Staging}
@@ -87,31 +87,31 @@ pub settled-is : (n : ℕ) (new old : Trial) → rule.settledRow n (firsts n (ne
 unfolding rule.settled
 settled-is n new old = refl
 
-module _ (n x t : ℕ) (h e v q f s : Row) where
-  abbrev pub on : ℕ → ℕ → Row → Channel
-  on accepted wanted u = channel n x t accepted wanted h e u v q f
+module _ (n x t accepted : ℕ) (h e v q f s : Row) where
+  abbrev pub on : ℕ → Row → Channel
+  on wanted u = channel n x t accepted wanted h e u v q f
 
-  -- r is how the stages end, whatever the counts and the stored u
+  -- r is how the stages end, whatever the steps wanted and the stored u
   pub record Advances (r : Advanced) : Type 0 where
-    pub at : (a w : ℕ) (u : Row) → advanced (on a w u) r ≡ stepped (on a w u) (stages (on a w u) s)
+    pub at : (w : ℕ) (u : Row) → advanced (on w u) r ≡ stepped (on w u) (stages (on w u) s)
     pub kept : r .answer .number ≡ 0 → Kept n (r .trial)
 
   -- with correction k next, after the trial old
   pub record Going (k : ℕ) (old : Trial) : Type 0 where
     pub kept : Kept n old
-    pub at : (a w : ℕ) (u : Row) → stepped (on a w u) (rule.corrections (on a w u) s (11 - k) k (rowsOf n old)) ≡ stepped (on a w u) (stages (on a w u) s)
+    pub at : (w : ℕ) (u : Row) → stepped (on w u) (rule.corrections (on w u) s (11 - k) k (rowsOf n old)) ≡ stepped (on w u) (stages (on w u) s)
 
   -- the outcome of a stage, of the channel that moves
   abbrev pub staged : Bool → Row → Row → Outcome rule.Trial
-  staged corrects before-q before-f = rule.stage (moving n x t h e v) s (weights corrects) (levelsOf corrects (n - 1) before-q q) (levelsOf corrects n before-f f)
+  staged corrects before-q before-f = rule.stage (moving n x t h e v) s (weightsOf corrects accepted) (levelsOf corrects (n - 1) before-q q) (levelsOf corrects n before-f f)
 
-  predicts : (a w : ℕ) (u : Row) → rule.prediction (on a w u) s ≡ staged false q f
+  predicts : (w : ℕ) (u : Row) → rule.prediction (on w u) s ≡ staged false q f
   unfolding rule.prediction rule.stage rule.tried rule.raised rule.hastened rule.moves rule.faceDivisor
-  predicts a w u = refl
+  predicts w u = refl
 
-  corrects : (a w : ℕ) (u : Row) (old : Trial) → rule.correction (on a w u) s (rowsOf n old) ≡ staged true (old .q) (old .f)
+  corrects : (w : ℕ) (u : Row) (old : Trial) → rule.correction (on w u) s (rowsOf n old) ≡ staged true (old .q) (old .f)
   unfolding rule.correction rule.stage rule.tried rule.raised rule.hastened rule.moves rule.faceDivisor
-  corrects a w u old = refl
+  corrects w u old = refl
 
   staged-met : (b : Bool) (before-q before-f : Row) → Met 4 9 (staged b before-q before-f)
   unfolding rule.stage
@@ -130,9 +130,9 @@ module _ (n x t : ℕ) (h e v q f s : Row) where
           let y = why-refused n r o (staged-met false q f) p z in
           record {
             at =
-                λ a w u.
-                rw (ne-eqb (r .fault .number) 0 z) (λ i. refusal (on a w u) (y .tells i) (stage-met (r .fault .number) 0 (y .such .0) (y .such .1) i))
-                ∙ stages-refused (on a w u) s (y .why) (predicts a w u ∙ y .is);
+                λ w u.
+                rw (ne-eqb (r .fault .number) 0 z) (λ i. refusal (on w u) (y .tells i) (stage-met (r .fault .number) 0 (y .such .0) (y .such .1) i))
+                ∙ stages-refused (on w u) s (y .why) (predicts w u ∙ y .is);
             kept = λ d. absurd (z d);
           }
 
@@ -142,7 +142,7 @@ module _ (n x t : ℕ) (h e v q f s : Row) where
           let y : Returned n r o = rw p (returned n most o (staged-sound false q f) (sym (ap (λ i. i .fault .number) p) ∙ z)) in
           record {
             kept = y .kept;
-            at = λ a w u. ap (stepped (on a w u)) (sym (stages-done (on a w u) s (rowsOf n r) (predicts a w u ∙ y .is)));
+            at = λ w u. ap (stepped (on w u)) (sym (stages-done (on w u) s (rowsOf n r) (predicts w u ∙ y .is)));
           }
 
     -- a correction
@@ -151,20 +151,20 @@ module _ (n x t : ℕ) (h e v q f s : Row) where
       o = staged true (old .q) (old .f)
 
       -- the corrections that are left, this one and those after it
-      unrolled : (a w : ℕ) (u : Row) → stepped (on a w u) (rule.corrections (on a w u) s (suc (10 - k)) k (rowsOf n old)) ≡ stepped (on a w u) (stages (on a w u) s)
-      unrolled a w u =
+      unrolled : (w : ℕ) (u : Row) → stepped (on w u) (rule.corrections (on w u) s (suc (10 - k)) k (rowsOf n old)) ≡ stepped (on w u) (stages (on w u) s)
+      unrolled w u =
           let z : suc (10 - k) ≡ 11 - k = omega arith in
-          ap (λ i. stepped (on a w u) (rule.corrections (on a w u) s i k (rowsOf n old))) z ∙ g .at a w u
+          ap (λ i. stepped (on w u) (rule.corrections (on w u) s i k (rowsOf n old))) z ∙ g .at w u
 
       pub corrected-refused : (r .fault .number ≡ 0 → ⊥) → Advances (record { answer = answers.refusal (r .fault) (stageOf (r .fault .number) k); trial = r })
       corrected-refused z =
           let y = why-refused n r o (staged-met true (old .q) (old .f)) p z in
           record {
             at =
-                λ a w u.
-                rw (ne-eqb (r .fault .number) 0 z) (λ i. refusal (on a w u) (y .tells i) (stage-met (r .fault .number) k (y .such .0) (y .such .1) i))
-                ∙ correction-refused (on a w u) s (10 - k) k (rowsOf n old) (y .why) (corrects a w u old ∙ y .is)
-                ∙ unrolled a w u;
+                λ w u.
+                rw (ne-eqb (r .fault .number) 0 z) (λ i. refusal (on w u) (y .tells i) (stage-met (r .fault .number) k (y .such .0) (y .such .1) i))
+                ∙ correction-refused (on w u) s (10 - k) k (rowsOf n old) (y .why) (corrects w u old ∙ y .is)
+                ∙ unrolled w u;
             kept = λ d. absurd (z d);
           }
 
@@ -176,9 +176,9 @@ module _ (n x t : ℕ) (h e v q f s : Row) where
         corrected-settled d =
             record {
               at =
-                  λ a w u.
-                  correction-settled (on a w u) s (10 - k) k (rowsOf n old) (rowsOf n r) (corrects a w u old ∙ corrected-kept .is) d
-                  ∙ unrolled a w u;
+                  λ w u.
+                  correction-settled (on w u) s (10 - k) k (rowsOf n old) (rowsOf n r) (corrects w u old ∙ corrected-kept .is) d
+                  ∙ unrolled w u;
               kept = λ i. corrected-kept .kept;
             }
 
@@ -187,12 +187,12 @@ module _ (n x t : ℕ) (h e v q f s : Row) where
             record {
               kept = corrected-kept .kept;
               at =
-                  λ a w u.
+                  λ w u.
                   let i : 11 - (k + 1) ≡ 10 - k = omega arith in
-                  ap (λ m. stepped (on a w u) (rule.corrections (on a w u) s m (k + 1) (rowsOf n r))) i
-                  ∙ ap (λ m. stepped (on a w u) (rule.corrections (on a w u) s (10 - k) m (rowsOf n r))) (add-one k)
-                  ∙ ap (stepped (on a w u)) (sym (correction-not (on a w u) s (10 - k) k (rowsOf n old) (rowsOf n r) (corrects a w u old ∙ corrected-kept .is) d))
-                  ∙ unrolled a w u;
+                  ap (λ m. stepped (on w u) (rule.corrections (on w u) s m (k + 1) (rowsOf n r))) i
+                  ∙ ap (λ m. stepped (on w u) (rule.corrections (on w u) s (10 - k) m (rowsOf n r))) (add-one k)
+                  ∙ ap (stepped (on w u)) (sym (correction-not (on w u) s (10 - k) k (rowsOf n old) (rowsOf n r) (corrects w u old ∙ corrected-kept .is) d))
+                  ∙ unrolled w u;
             }
 
   -- after the tenth
@@ -200,11 +200,11 @@ module _ (n x t : ℕ) (h e v q f s : Row) where
   unsettled k old h g =
       record {
         at =
-            λ a w u.
+            λ w u.
             let i : 11 - k ≡ 0 = omega arith in
-            ap (refusal (on a w u) (plain 10)) (sym (stage-last 10 k refl))
-            ∙ corrections-end (on a w u) s k (rowsOf n old)
-            ∙ ap (λ m. stepped (on a w u) (rule.corrections (on a w u) s m k (rowsOf n old))) (sym i)
-            ∙ g .at a w u;
+            ap (refusal (on w u) (plain 10)) (sym (stage-last 10 k refl))
+            ∙ corrections-end (on w u) s k (rowsOf n old)
+            ∙ ap (λ m. stepped (on w u) (rule.corrections (on w u) s m k (rowsOf n old))) (sym i)
+            ∙ g .at w u;
         kept = λ d. absurd (let z : _≡_ {A = ℕ} 10 0 = d in omega arith);
       }

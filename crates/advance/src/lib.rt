@@ -19,7 +19,7 @@ pub fn advance(
     s: &[i64],
 ) -> Advanced
     requires { ⌜ Staging (c .n) (c .x) (c .t) (now h) (now e) (now v) (now q) (now f) (now s) (now q) (now f) ⌝ }
-    ensures { λ r. ⌜ Advances (c .n) (c .x) (c .t) (now (h .entry)) (now (e .entry)) (now (v .entry)) (now (q .entry)) (now (f .entry)) (now (s .entry)) r ⌝ }
+    ensures { λ r. ⌜ Advances (c .n) (c .x) (c .t) (c .accepted) (now (h .entry)) (now (e .entry)) (now (v .entry)) (now (q .entry)) (now (f .entry)) (now (s .entry)) r ⌝ }
 {
     let mut old = stage::stage(false, c, h, e, v, q, f, s, q, f);
     let predicted = old.fault;

@@ -108,13 +108,13 @@ module _ (c : Channel) (s : Row) where
           before-f-small = record { at = λ i l. a .levels .F-small .at i (omega arith) };
         }
 
-    pub attempt-goes : (r : Advanced) → (c .accepted ≡ c .wanted → ⊥) → Advances (c .N) (c .X) (c .T) (c .h) (c .e) (c .v) (c .Q) (c .F) s r → Attempted c s r
+    pub attempt-goes : (r : Advanced) → (c .accepted ≡ c .wanted → ⊥) → Advances (c .N) (c .X) (c .T) (c .accepted) (c .h) (c .e) (c .v) (c .Q) (c .F) s r → Attempted c s r
     unfolding isComplete
     attempt-goes r d g =
         let a = allowed-of c (s ∷ []) (sym e) in
         let l : c .accepted ≤ c .wanted = a .counts .accepted-most in
         record {
-          is = g .at (c .accepted) (c .wanted) (c .u) ∙ step-goes (done-of checks (sym e)) (ne-eqb (c .accepted) (c .wanted) d);
+          is = g .at (c .wanted) (c .u) ∙ step-goes (done-of checks (sym e)) (ne-eqb (c .accepted) (c .wanted) d);
           kept = g .kept;
           allowed = λ i. a;
           more = λ i. omega (arith, d);

@@ -1,4 +1,4 @@
--- Whole calls over rows, computed by the prover: each way a step or a run ends, and a step of 24 cells.
+-- Whole calls over rows, computed by the prover: each row of time weights, each way a step or a run ends, and a step of 24 cells.
 -- The numbers are the second program's: tests/compare/computed writes this file from tests/compare/calls.txt, and asks again in the tests.
 -- A channel is its counts N, X, T, accepted, wanted and its rows h, e, u, V, Q, F; an answer is number, stage, place and count.
 use mathlib.Core.Path.{_≡_}
@@ -10,7 +10,7 @@ use Rattle.rule.specs.Channel.{Channel, channel}
 use Rattle.rule.specs.Calls.{makeCall, stepCall, filterCall, runCall, runForCall}
 use Rattle.rule.specs.Alike.{channels, alike}
 use Rattle.rule.specs.Opened.{opened}
-use Rattle.rule.specs.Computed.{answers, filter-uneven-before, onto, thrice}
+use Rattle.rule.specs.Computed.{answers, filter-uneven-before, onto, step-later-after, step-second-before, thrice}
 
 -- a channel of 9 cells over an uneven bottom
 abbrev make-uneven-before : Channel
@@ -40,6 +40,62 @@ pub make-uneven : makeCall make-uneven-before ≡ answers 0 0 0 0 make-uneven-af
 unfolding opened
 make-uneven = alike channels (makeCall make-uneven-before) (answers 0 0 0 0 make-uneven-after) tt
 
+-- a first step of the rows of step-later: of the levels it weighs the newest alone
+abbrev step-first-before : Channel
+step-first-before =
+    channel 8 1000 25 0 9
+    (replicate 8 (pos 300))
+    (step-second-before .e)
+    (replicate 8 (pos 0))
+    (step-second-before .v)
+    (step-second-before .Q)
+    (step-second-before .F)
+
+abbrev step-first-after : Channel
+step-first-after =
+    channel 8 1000 25 1 9
+    (replicate 8 (pos 300))
+    (minus 365 ∷ minus 5421 ∷ pos 15606 ∷ minus 2521 ∷ pos 14096 ∷ minus 1416 ∷ pos 7229 ∷ minus 12608 ∷ [])
+    (minus 171401 ∷ pos 134748 ∷ minus 66158 ∷ minus 136306 ∷ pos 50658 ∷ minus 186884 ∷ minus 4680 ∷
+    pos 129 ∷ [])
+    (minus 194180 ∷ pos 152547 ∷ minus 70748 ∷ minus 145331 ∷ pos 65559 ∷ minus 201618 ∷ pos 1547 ∷
+    pos 307 ∷ [])
+    (onto (minus 9452298601 ∷ pos 18921665983 ∷ minus 40763626533 ∷ minus 7853270177 ∷ minus 19766163624 ∷
+    minus 34903577028 ∷ pos 3975659693 ∷ [])
+    (step-first-before .Q))
+    (onto (pos 45088 ∷ minus 119122 ∷ minus 20323 ∷ pos 27418 ∷ minus 12107 ∷ pos 27645 ∷ pos 51968 ∷
+    pos 136803 ∷ [])
+    (step-first-before .F))
+
+pub step-first : stepCall step-first-before (replicate 8 (pos 0)) ≡ answers 0 0 0 1 step-first-after
+unfolding opened
+step-first = alike channels (stepCall step-first-before (replicate 8 (pos 0))) (answers 0 0 0 1 step-first-after) tt
+
+-- a third step of them, which leaves the rows that the fourth left
+abbrev step-third-before : Channel
+step-third-before =
+    channel 8 1000 25 2 9
+    (replicate 8 (pos 300))
+    (step-second-before .e)
+    (replicate 8 (pos 0))
+    (step-second-before .v)
+    (step-second-before .Q)
+    (step-second-before .F)
+
+abbrev step-third-after : Channel
+step-third-after =
+    channel 8 1000 25 3 9
+    (replicate 8 (pos 300))
+    (step-later-after .e)
+    (step-later-after .u)
+    (step-later-after .v)
+    (step-later-after .Q)
+    (step-later-after .F)
+
+pub step-third : stepCall step-third-before (replicate 8 (pos 0)) ≡ answers 0 0 0 1 step-third-after
+unfolding opened
+step-third = alike channels (stepCall step-third-before (replicate 8 (pos 0))) (answers 0 0 0 1 step-third-after) tt
+
 -- a step that settles at its first correction
 abbrev step-settled-at-once-before : Channel
 step-settled-at-once-before =
@@ -56,13 +112,13 @@ abbrev step-settled-at-once-after : Channel
 step-settled-at-once-after =
     channel 8 1000 20 1 10
     (step-settled-at-once-before .h)
-    (pos 7550 ∷ pos 8277 ∷ minus 1260 ∷ minus 8888 ∷ minus 8539 ∷ pos 3157 ∷ pos 5027 ∷ minus 6730 ∷ [])
+    (pos 7549 ∷ pos 8277 ∷ minus 1260 ∷ minus 8887 ∷ minus 8537 ∷ pos 3155 ∷ pos 5026 ∷ minus 6729 ∷ [])
     (minus 800 ∷ pos 1602 ∷ pos 2555 ∷ pos 398 ∷ minus 1837 ∷ minus 1090 ∷ pos 394 ∷ pos 1470 ∷ [])
     (minus 953 ∷ pos 1665 ∷ pos 2655 ∷ pos 401 ∷ minus 1929 ∷ minus 1130 ∷ pos 421 ∷ pos 1593 ∷ [])
-    (onto (pos 64365390 ∷ pos 754097899 ∷ pos 513795593 ∷ minus 261227784 ∷ minus 527808966 ∷ minus 121132827 ∷
-    pos 378997701 ∷ [])
+    (onto (pos 64365924 ∷ pos 754097799 ∷ pos 513796131 ∷ minus 261229876 ∷ minus 527809838 ∷ minus 121131601 ∷
+    pos 378998270 ∷ [])
     (step-settled-at-once-before .Q))
-    (onto (minus 12551 ∷ pos 44176 ∷ pos 99108 ∷ pos 43420 ∷ minus 73636 ∷ minus 86956 ∷ pos 66139 ∷ pos 78421 ∷ [])
+    (onto (minus 12557 ∷ pos 44171 ∷ pos 99104 ∷ pos 43405 ∷ minus 73617 ∷ minus 86936 ∷ pos 66119 ∷ pos 78409 ∷ [])
     (step-settled-at-once-before .F))
 
 pub step-settled-at-once :
@@ -74,10 +130,10 @@ step-settled-at-once =
     (stepCall step-settled-at-once-before (replicate 8 (pos 0)))
     (answers 0 0 0 1 step-settled-at-once-after) tt
 
--- a rough step that takes eight corrections
+-- a rough third step that takes eight corrections
 abbrev step-eight-corrections-before : Channel
 step-eight-corrections-before =
-    channel 8 200 100 0 10
+    channel 8 200 100 2 10
     (pos 546 ∷ pos 511 ∷ pos 514 ∷ pos 540 ∷ pos 545 ∷ pos 482 ∷ pos 541 ∷ pos 461 ∷ [])
     (minus 70908 ∷ minus 84446 ∷ pos 63512 ∷ pos 66844 ∷ minus 16642 ∷ minus 71498 ∷ minus 32739 ∷
     pos 44699 ∷ [])
@@ -92,7 +148,7 @@ step-eight-corrections-before =
 
 abbrev step-eight-corrections-after : Channel
 step-eight-corrections-after =
-    channel 8 200 100 1 10
+    channel 8 200 100 3 10
     (step-eight-corrections-before .h)
     (pos 84377 ∷ pos 44746 ∷ minus 329024 ∷ minus 407997 ∷ pos 143537 ∷ pos 59179 ∷ pos 465203 ∷
     minus 161199 ∷ [])
@@ -191,7 +247,7 @@ step-too-fast =
 -- a channel of 24 cells
 abbrev make-wide-before : Channel
 make-wide-before =
-    channel 24 500 50 0 10
+    channel 24 500 40 0 10
     (pos 319 ∷ pos 293 ∷ pos 297 ∷ pos 291 ∷ pos 294 ∷ pos 291 ∷ pos 281 ∷ pos 289 ∷ pos 306 ∷ pos 271 ∷
     pos 326 ∷ pos 329 ∷ pos 284 ∷ pos 273 ∷ pos 336 ∷ pos 291 ∷ pos 332 ∷ pos 326 ∷ pos 308 ∷ pos 333 ∷
     pos 280 ∷ pos 302 ∷ pos 290 ∷ pos 311 ∷ [])
@@ -209,7 +265,7 @@ make-wide-before =
 
 abbrev make-wide-after : Channel
 make-wide-after =
-    channel 24 500 50 0 10
+    channel 24 500 40 0 10
     (make-wide-before .h)
     (make-wide-before .e)
     (make-wide-before .u)
@@ -234,30 +290,30 @@ make-wide = alike channels (makeCall make-wide-before) (answers 0 0 0 0 make-wid
 -- a step of 24 cells with a poured row
 abbrev step-wide-after : Channel
 step-wide-after =
-    channel 24 500 50 1 10
+    channel 24 500 40 1 10
     (make-wide-before .h)
-    (minus 6521 ∷ minus 8105 ∷ pos 732 ∷ pos 3851 ∷ minus 643 ∷ pos 8720 ∷ pos 14095 ∷ minus 15249 ∷
-    minus 10074 ∷ minus 6270 ∷ minus 1963 ∷ pos 15237 ∷ pos 8673 ∷ minus 10098 ∷ minus 7157 ∷
-    minus 10750 ∷ minus 8315 ∷ pos 5381 ∷ pos 3395 ∷ pos 13322 ∷ minus 8725 ∷ pos 9596 ∷ pos 14058 ∷
-    pos 1033 ∷ [])
-    (pos 107689 ∷ minus 49750 ∷ minus 58265 ∷ pos 29560 ∷ pos 74022 ∷ minus 57213 ∷ minus 56862 ∷
-    minus 83373 ∷ pos 26236 ∷ pos 6891 ∷ pos 76353 ∷ minus 85786 ∷ pos 64615 ∷ minus 75494 ∷
-    minus 35188 ∷ pos 6718 ∷ minus 76621 ∷ pos 49807 ∷ pos 35500 ∷ pos 92495 ∷ minus 85227 ∷
-    minus 6965 ∷ pos 17816 ∷ minus 45791 ∷ [])
-    (pos 165999 ∷ minus 71293 ∷ minus 71536 ∷ pos 35367 ∷ pos 97663 ∷ minus 75086 ∷ minus 52813 ∷
-    minus 101662 ∷ pos 44309 ∷ minus 6230 ∷ pos 115193 ∷ minus 136371 ∷ pos 102998 ∷ minus 95598 ∷
-    minus 38649 ∷ pos 26185 ∷ minus 112287 ∷ pos 73901 ∷ pos 22849 ∷ pos 130533 ∷ minus 119361 ∷
-    minus 421 ∷ pos 30057 ∷ minus 68961 ∷ [])
-    (onto (pos 16536972874 ∷ minus 22642325895 ∷ minus 5827968614 ∷ pos 21253385356 ∷ pos 3470046586 ∷
-    minus 19996833548 ∷ minus 22623355189 ∷ minus 7503532075 ∷ pos 5621667412 ∷ pos 18000624825 ∷
-    minus 4848709698 ∷ minus 7073790733 ∷ pos 3239284587 ∷ minus 20507741899 ∷ minus 1594318673 ∷
-    minus 14271829545 ∷ minus 6223744684 ∷ pos 15778746116 ∷ pos 26388258294 ∷ pos 4756452704 ∷
-    minus 18376027859 ∷ pos 5418796356 ∷ minus 6461852634 ∷ [])
+    (minus 6186 ∷ minus 8860 ∷ pos 1048 ∷ pos 4369 ∷ minus 959 ∷ pos 8221 ∷ pos 13979 ∷ minus 14896 ∷
+    minus 9777 ∷ minus 6016 ∷ minus 2398 ∷ pos 15128 ∷ pos 8845 ∷ minus 10532 ∷ minus 6774 ∷
+    minus 10981 ∷ minus 8133 ∷ pos 5807 ∷ pos 3565 ∷ pos 12877 ∷ minus 9121 ∷ pos 10055 ∷ pos 13762 ∷
+    pos 1200 ∷ [])
+    (pos 107143 ∷ minus 48875 ∷ minus 56550 ∷ pos 29029 ∷ pos 74140 ∷ minus 55323 ∷ minus 59104 ∷
+    minus 85782 ∷ pos 27244 ∷ pos 7378 ∷ pos 78169 ∷ minus 84530 ∷ pos 61896 ∷ minus 76849 ∷
+    minus 35115 ∷ pos 6508 ∷ minus 74926 ∷ pos 50984 ∷ pos 36080 ∷ pos 91065 ∷ minus 85255 ∷
+    minus 4644 ∷ pos 16698 ∷ minus 47063 ∷ [])
+    (pos 165070 ∷ minus 70335 ∷ minus 69397 ∷ pos 34448 ∷ pos 97631 ∷ minus 72429 ∷ minus 55544 ∷
+    minus 104560 ∷ pos 45877 ∷ minus 6033 ∷ pos 117338 ∷ minus 134620 ∷ pos 99564 ∷ minus 96946 ∷
+    minus 38342 ∷ pos 25641 ∷ minus 110177 ∷ pos 75092 ∷ pos 23647 ∷ pos 128522 ∷ minus 119490 ∷
+    pos 2714 ∷ pos 28507 ∷ minus 70655 ∷ [])
+    (onto (pos 16565628862 ∷ minus 22154069112 ∷ minus 5646852283 ∷ pos 21075427673 ∷ pos 3902635189 ∷
+    minus 19969275242 ∷ minus 23502643442 ∷ minus 7680833538 ∷ pos 5895829137 ∷ pos 18340802862 ∷
+    minus 4192593960 ∷ minus 7294715220 ∷ pos 2541013953 ∷ minus 20612809244 ∷ minus 1640846000 ∷
+    minus 14026593694 ∷ minus 5671643807 ∷ pos 16133010798 ∷ pos 26138740764 ∷ pos 4367103314 ∷
+    minus 17850988110 ∷ pos 5678703930 ∷ minus 7011396988 ∷ [])
     (make-wide-after .Q))
-    (onto (pos 24909 ∷ minus 90057 ∷ minus 140286 ∷ pos 40243 ∷ minus 33257 ∷ minus 232909 ∷ pos 296564 ∷
-    pos 299969 ∷ minus 146275 ∷ minus 56711 ∷ minus 240737 ∷ minus 145542 ∷ pos 320802 ∷ pos 153358 ∷
-    minus 14562 ∷ pos 40966 ∷ minus 190242 ∷ minus 120543 ∷ minus 106610 ∷ pos 179435 ∷ pos 55119 ∷
-    minus 316977 ∷ pos 129270 ∷ pos 179453 ∷ [])
+    (onto (pos 40969 ∷ minus 89140 ∷ minus 158304 ∷ pos 49089 ∷ minus 20935 ∷ minus 235657 ∷ pos 286015 ∷
+    pos 296431 ∷ minus 145688 ∷ minus 47928 ∷ minus 236086 ∷ minus 155090 ∷ pos 326676 ∷ pos 150502 ∷
+    minus 17183 ∷ pos 44974 ∷ minus 199129 ∷ minus 120830 ∷ minus 96081 ∷ pos 186767 ∷ pos 42980 ∷
+    minus 317663 ∷ pos 134011 ∷ pos 172372 ∷ [])
     (make-wide-after .F))
 
 abbrev step-wide-poured : Row
@@ -300,13 +356,13 @@ abbrev step-by-hand-after : Channel
 step-by-hand-after =
     channel 8 1000 50 1 10
     (replicate 8 (pos 1000))
-    (minus 2 ∷ pos 30 ∷ pos 2 ∷ pos 11940 ∷ pos 2 ∷ pos 29 ∷ minus 1 ∷ pos 0 ∷ [])
-    (minus 43 ∷ minus 227 ∷ minus 2248 ∷ pos 0 ∷ pos 2249 ∷ pos 230 ∷ pos 55 ∷ pos 9 ∷ [])
-    (minus 4 ∷ pos 489 ∷ minus 3913 ∷ pos 0 ∷ pos 3913 ∷ minus 489 ∷ pos 4 ∷ minus 1 ∷ [])
-    (onto (pos 81090326 ∷ minus 1509103648 ∷ minus 1600860729 ∷ pos 1601025713 ∷ pos 1510210153 ∷
-    minus 77834086 ∷ pos 14466215 ∷ [])
+    (minus 2 ∷ pos 40 ∷ pos 2 ∷ pos 11920 ∷ pos 2 ∷ pos 40 ∷ minus 2 ∷ pos 0 ∷ [])
+    (minus 44 ∷ minus 227 ∷ minus 2243 ∷ pos 0 ∷ pos 2244 ∷ pos 230 ∷ pos 56 ∷ pos 10 ∷ [])
+    (minus 8 ∷ pos 488 ∷ minus 3904 ∷ pos 0 ∷ pos 3904 ∷ minus 488 ∷ pos 7 ∷ minus 1 ∷ [])
+    (onto (pos 79807268 ∷ minus 1505934908 ∷ minus 1597243769 ∷ pos 1597408731 ∷ pos 1507041570 ∷
+    minus 76774261 ∷ pos 15801000 ∷ [])
     (make-by-hand-after .Q))
-    (onto (minus 232 ∷ pos 9736 ∷ minus 77888 ∷ minus 1 ∷ pos 77896 ∷ minus 9741 ∷ pos 188 ∷ minus 31 ∷ [])
+    (onto (minus 306 ∷ pos 9720 ∷ minus 77692 ∷ pos 0 ∷ pos 77692 ∷ minus 9718 ∷ pos 260 ∷ minus 47 ∷ [])
     (make-by-hand-after .F))
 
 pub step-by-hand : stepCall make-by-hand-after (replicate 8 (pos 0)) ≡ answers 0 0 0 3 step-by-hand-after
@@ -372,6 +428,28 @@ step-two-levels =
     (stepCall step-two-levels-before (replicate 8 (pos 0)))
     (answers 35 0 7 0 step-two-levels-before) tt
 
+-- a first step with a flux out of range in face 5 of the oldest level, which has no weight there and is asked all the same
+abbrev step-oldest-level-before : Channel
+step-oldest-level-before =
+    channel 8 1000 20 0 10
+    (replicate 8 (pos 300))
+    (replicate 8 (pos 0))
+    (replicate 8 (pos 0))
+    (replicate 8 (pos 0))
+    (pos 0 ∷ pos 0 ∷ pos 0 ∷ pos 0 ∷ pos 0 ∷ pos 0 ∷ pos 0 ∷
+    pos 0 ∷ pos 0 ∷ pos 0 ∷ pos 0 ∷ pos 0 ∷ pos 0 ∷ pos 0 ∷
+    pos 0 ∷ pos 0 ∷ pos 0 ∷ pos 0 ∷ minus 1000000000000001 ∷ pos 0 ∷ pos 0 ∷ [])
+    (replicate 24 (pos 0))
+
+pub step-oldest-level :
+    stepCall step-oldest-level-before (replicate 8 (pos 0))
+    ≡ answers 35 0 5 0 step-oldest-level-before
+unfolding opened
+step-oldest-level =
+    alike channels
+    (stepCall step-oldest-level-before (replicate 8 (pos 0)))
+    (answers 35 0 5 0 step-oldest-level-before) tt
+
 -- cells 3 and 6 fall dry in the prediction: the lower one is told
 abbrev step-dry-cells-before : Channel
 step-dry-cells-before =
@@ -412,18 +490,18 @@ abbrev run-paused-after : Channel
 run-paused-after =
     channel 8 1000 20 2 3
     (run-paused-before .h)
-    (minus 6268 ∷ pos 2163 ∷ pos 5362 ∷ minus 1907 ∷ pos 2474 ∷ pos 7797 ∷ minus 6641 ∷ pos 8800 ∷ [])
-    (minus 2943 ∷ minus 2247 ∷ pos 640 ∷ pos 662 ∷ minus 3077 ∷ pos 1834 ∷ pos 766 ∷ minus 3243 ∷ [])
-    (minus 3220 ∷ minus 2314 ∷ pos 745 ∷ pos 799 ∷ minus 3363 ∷ pos 2051 ∷ pos 867 ∷ minus 3673 ∷ [])
-    (onto (minus 1041430494 ∷ minus 213101751 ∷ pos 384062229 ∷ minus 457479379 ∷ minus 210786357 ∷
-    pos 631379817 ∷ minus 664218907 ∷ [])
-    (onto (minus 573529086 ∷ minus 100029675 ∷ pos 122537154 ∷ minus 264469892 ∷ minus 207953367 ∷
-    pos 319754473 ∷ minus 167643714 ∷ [])
+    (minus 6268 ∷ pos 2163 ∷ pos 5361 ∷ minus 1906 ∷ pos 2474 ∷ pos 7796 ∷ minus 6640 ∷ pos 8800 ∷ [])
+    (minus 2943 ∷ minus 2247 ∷ pos 640 ∷ pos 662 ∷ minus 3077 ∷ pos 1834 ∷ pos 765 ∷ minus 3243 ∷ [])
+    (minus 3220 ∷ minus 2314 ∷ pos 745 ∷ pos 799 ∷ minus 3363 ∷ pos 2051 ∷ pos 866 ∷ minus 3673 ∷ [])
+    (onto (minus 1041430441 ∷ minus 213102179 ∷ pos 384062242 ∷ minus 457478786 ∷ minus 210764553 ∷
+    pos 631223459 ∷ minus 664373936 ∷ [])
+    (onto (minus 573529878 ∷ minus 100029047 ∷ pos 122537201 ∷ minus 264469693 ∷ minus 207930886 ∷
+    pos 319599253 ∷ minus 167797500 ∷ [])
     (run-paused-before .Q)))
-    (onto (minus 52533 ∷ minus 72489 ∷ pos 33763 ∷ pos 23495 ∷ minus 73274 ∷ pos 68360 ∷ minus 1385 ∷
-    minus 112781 ∷ [])
-    (onto (minus 52735 ∷ minus 72653 ∷ pos 33951 ∷ pos 23526 ∷ minus 73468 ∷ pos 68525 ∷ minus 1349 ∷
-    minus 112997 ∷ [])
+    (onto (minus 52534 ∷ minus 72482 ∷ pos 33757 ∷ pos 23488 ∷ minus 73260 ∷ pos 68352 ∷ minus 1392 ∷
+    minus 112773 ∷ [])
+    (onto (minus 52722 ∷ minus 72640 ∷ pos 33937 ∷ pos 23520 ∷ minus 73453 ∷ pos 68510 ∷ minus 1350 ∷
+    minus 112975 ∷ [])
     (run-paused-before .F)))
 
 pub run-paused : runForCall 2 run-paused-before ≡ answers 16 0 0 2 run-paused-after
@@ -435,14 +513,14 @@ abbrev run-complete-after : Channel
 run-complete-after =
     channel 8 1000 20 3 3
     (run-paused-before .h)
-    (minus 6243 ∷ pos 2143 ∷ pos 5347 ∷ minus 1886 ∷ pos 2467 ∷ pos 7777 ∷ minus 6607 ∷ pos 8782 ∷ [])
-    (minus 3921 ∷ minus 3614 ∷ pos 1233 ∷ pos 1075 ∷ minus 4397 ∷ pos 3060 ∷ pos 710 ∷ minus 5246 ∷ [])
-    (minus 4268 ∷ minus 3761 ∷ pos 1417 ∷ pos 1268 ∷ minus 4826 ∷ pos 3415 ∷ pos 839 ∷ minus 5925 ∷ [])
-    (onto (minus 1507456000 ∷ minus 326337416 ∷ pos 644642171 ∷ minus 649731317 ∷ minus 213880920 ∷
-    pos 941976053 ∷ minus 1159263234 ∷ [])
+    (minus 6243 ∷ pos 2143 ∷ pos 5346 ∷ minus 1885 ∷ pos 2467 ∷ pos 7776 ∷ minus 6606 ∷ pos 8782 ∷ [])
+    (minus 3921 ∷ minus 3614 ∷ pos 1233 ∷ pos 1075 ∷ minus 4396 ∷ pos 3060 ∷ pos 709 ∷ minus 5246 ∷ [])
+    (minus 4268 ∷ minus 3761 ∷ pos 1417 ∷ pos 1268 ∷ minus 4825 ∷ pos 3415 ∷ pos 838 ∷ minus 5925 ∷ [])
+    (onto (minus 1507455897 ∷ minus 326338225 ∷ pos 644617181 ∷ minus 649562273 ∷ minus 213691671 ∷
+    pos 941794160 ∷ minus 1159418213 ∷ [])
     (run-paused-after .Q))
-    (onto (minus 52244 ∷ minus 72223 ∷ pos 33466 ∷ pos 23446 ∷ minus 72962 ∷ pos 68053 ∷ minus 1406 ∷
-    minus 112385 ∷ [])
+    (onto (minus 52245 ∷ minus 72216 ∷ pos 33460 ∷ pos 23438 ∷ minus 72948 ∷ pos 68046 ∷ minus 1412 ∷
+    minus 112377 ∷ [])
     (run-paused-after .F))
 
 pub run-complete : runCall run-paused-before ≡ answers 0 0 0 3 run-complete-after

@@ -8,14 +8,14 @@ use mir.Syntax.{w64}
 use mir.ValLaws.{toZ-ofZ}
 use Rattle.whole.specs.Expr.{E, res, rd-is, abs≤}
 use Rattle.rule.specs.Rounded.{rounded}
-use Rattle.motion.specs.Weights.{weighted-within}
+use Rattle.motion.specs.Weights.{carried-within}
 use Rattle.motion.proofs.added.Statement.{statement}
 use Rattle.motion.proofs.added.Tie as tie
 
 abbrev sum : tie.After-timed → E
 sum c =
     let s = c .before in
-    res 4_400_000_000_000_000_000 (c .timed .ensures) (weighted-within 1_000_000_000_000_000 (s .args .n) (now (s .args .trial)) (now (s .args .levels)) (s .pre .levels) (s .args .j) (s .pre .place) (s .args .corrects) (s .args .t) (s .pre .brief))
+    res 4_400_000_000_000_000_000 (c .timed .ensures) (carried-within 1_000_000_000_000_000 (s .args .n) (now (s .args .trial)) (now (s .args .levels)) (s .pre .levels) (s .args .j) (s .pre .place) (now (s .args .table)) (s .pre .table-four) (s .args .t) (s .pre .brief))
 
 timed-requires : tie.Need-timed-requires
 timed-requires c κs = search needs

@@ -4,7 +4,6 @@ use borrow.Author.Needs.{needs}
 use denote.Ref.{now}
 use lib.IntN.{pos}
 use Rattle.whole.specs.Expr.{E, loc, res, mul, need, rd-is}
-use Rattle.rule.specs.Step as rule
 use Rattle.motion.specs.Weights.{weighed-small}
 use Rattle.motion.proofs.timed.Statement.{statement}
 use Rattle.motion.proofs.timed.Tie as tie
@@ -12,8 +11,8 @@ use Rattle.motion.proofs.timed.Tie as tie
 abbrev all : tie.After-weighted → E
 all c =
     let s = c .before in
-    mul (loc (s .args .t) (pos (s .args .t)) 100 refl (s .pre .1 .1))
-    (res 44_000_000_000_000_000 (c .weighted .ensures) (weighed-small 1_000_000_000_000_000 (s .args .m) (now (s .args .trial)) (now (s .args .levels)) (s .pre .0) (s .args .j) (s .pre .1 .0) (s .args .corrects)))
+    mul (loc (s .args .t) (pos (s .args .t)) 100 refl (s .pre .1 .1 .1))
+    (res 44_000_000_000_000_000 (c .weighted .ensures) (weighed-small 1_000_000_000_000_000 (s .args .m) (now (s .args .trial)) (now (s .args .levels)) (s .pre .0) (s .args .j) (s .pre .1 .0) (now (s .args .table)) (s .pre .1 .1 .0)))
 
 cast-result : tie.Need-cast-result
 cast-result c = search needs
@@ -25,7 +24,6 @@ mul-result : tie.Need-mul-result
 mul-result c = need (all c) tt
 
 returns : tie.Need-returns
-unfolding rule.weighted
 returns c = rd-is (all c) tt
 
 pub timed-spec : {M : Type 1} → statement M
