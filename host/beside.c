@@ -25,7 +25,10 @@ static void put_filter(struct text *text, uint32_t every)
 
 void put_run(struct text *text, const char *mark, const struct run_id *run)
 {
-    text_add(text, "%sorigin %s at step %" PRIu32 "\n%sfilter-every ", mark, run->origin.text, run->origin_step, mark);
+    text_add(text, "%sorigin %s at step %" PRIu32 "\n", mark, run->origin.text, run->origin_step);
+    if (run->rule > RULE_UNSAID)
+        text_add(text, "%srule %" PRIu32 "\n", mark, run->rule);
+    text_add(text, "%sfilter-every ", mark);
     put_filter(text, run->filter_every);
     text_add(text, "\n%spour %s\n", mark, run->pour.text);
 }
@@ -58,6 +61,14 @@ static void put_beside(struct text *text, const struct beside *beside)
     text_add(text, "sum %s\n", sum_of(text->at, text->length).text);
 }
 
+struct standing rule_words(uint32_t rule)
+{
+    struct standing out;
+    snprintf(out.text, sizeof out.text, "%s program's rule (%" PRIu32 ")",
+             rule < PATHPETAL_RULE ? "an earlier" : "a later", rule);
+    return out;
+}
+
 /* How a filter or a pour reads in a sentence. */
 static void add_how(struct text *how, const char *option, const char *there, const char *here)
 {
@@ -66,7 +77,9 @@ static void add_how(struct text *how, const char *option, const char *there, con
 
 bool same_options(const struct run_id *there, const struct run_id *here, struct text *how)
 {
-    bool same = true;
+    bool same = there->rule == here->rule;
+    if (!same)
+        text_add(how, "%s there, %" PRIu32 " here", rule_words(there->rule).text, here->rule);
     if (there->filter_every != here->filter_every) {
         struct text a = {0}, b = {0};
         put_filter(&a, there->filter_every);
@@ -92,6 +105,36 @@ bool same_run(const struct run_id *there, const struct run_id *here, struct text
         return same;
     text_add(how, "%sit began with another channel", how->length ? "; " : "");
     return false;
+}
+
+/* What follows the first word of a line, which stands after a mark; NULL if the line begins otherwise. */
+static const char *after_word(const char *line, const char *mark, const char *word)
+{
+    size_t marks = strlen(mark), letters = strlen(word);
+    bool same = strncmp(line, mark, marks) == 0 && strncmp(line + marks, word, letters) == 0;
+    return same ? line + marks + letters : NULL;
+}
+
+const char *take_run(const char *lines, const char *mark, struct run_id *run)
+{
+    char every[16] = "";
+    const char *at = after_word(lines, mark, "origin "), *rule;
+    int used = 0;
+    *run = (struct run_id){.rule = RULE_UNSAID};
+    if (!at || sscanf(at, "%64[0-9a-f] at step %7" SCNu32 " %n", run->origin.text, &run->origin_step, &used) != 2)
+        return NULL;
+    at += used;
+    rule = after_word(at, mark, "rule ");
+    if (rule && sscanf(rule, "%7" SCNu32 " %n", &run->rule, &used) == 1)
+        at = rule + used;
+    at = after_word(at, mark, "filter-every ");
+    if (!at || sscanf(at, "%15s %n", every, &used) != 1)
+        return NULL;
+    run->filter_every = (uint32_t)strtoul(every, NULL, 10); /* "none" is 0 */
+    at = after_word(at + used, mark, "pour ");
+    if (!at || sscanf(at, "%64s %n", run->pour.text, &used) != 1)
+        return NULL;
+    return at + used;
 }
 
 /* A gauge's line; gives what follows it, NULL if it is not there. */
@@ -131,23 +174,23 @@ static const char *take_saved(const char *at, struct saved *saved)
     return at;
 }
 
-/* Takes a text apart. It is one of ours only if putting it together again gives the same bytes. */
+/* Takes a text apart. It is one of ours only if putting it together again gives the same bytes. A record without gauges
+   is of the unsaid rule. */
 static bool take_beside(const char *text, size_t length, struct beside *beside)
 {
     struct text again = {0};
-    char every[16] = "";
-    const char *at;
-    int used = 0;
+    const char *at = after_word(text, "", FORM);
     bool same;
-    if (sscanf(text, FORM "origin %64[0-9a-f] at step %7" SCNu32 " filter-every %15s pour %64s%n",
-               beside->run.origin.text, &beside->run.origin_step, every, beside->run.pour.text, &used) != 4)
+    at = at ? take_run(at, "", &beside->run) : NULL;
+    if (!at)
         return false;
-    beside->run.filter_every = (uint32_t)strtoul(every, NULL, 10); /* "none" is 0 */
-    at = text + used + (text[used] == '\n');
     while (beside->count < 2) {
-        const char *after = take_saved(at, &beside->saved[beside->count]);
+        struct saved *saved = &beside->saved[beside->count];
+        const char *after = take_saved(at, saved);
         if (!after)
             break;
+        if (saved->recorded && saved->gauges == 0 && beside->run.rule != RULE_UNSAID)
+            return false;
         beside->count++;
         at = after;
     }

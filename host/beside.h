@@ -1,10 +1,10 @@
 /* beside.h: NAME.run, which stands beside each channel that a run saves, and says of which run it is.
 
-   A run is known by the channel that it began with and by what goes into its steps: the filter passes and the poured
-   water. Two runs that agree in these take the same numbers, so what one left the other may go on with. NAME.run also
-   says how far the staff record had come when the channel was saved, and what its gauges were then. It is written
-   before its channel and speaks of two: the one that stands, and the one that is about to take its place. So whichever
-   of them a killed run leaves, it is known. */
+   A run is known by the channel that it began with, by the rule that its steps follow and by what goes into them: the
+   filter passes and the poured water. Two runs that agree in these take the same numbers, so what one left the other
+   may go on with. NAME.run also says how far the staff record had come when the channel was saved, and what its gauges
+   were then. It is written before its channel and speaks of two: the one that stands, and the one that is about to take
+   its place. So whichever of them a killed run leaves, it is known. */
 #ifndef BESIDE_H
 #define BESIDE_H
 
@@ -12,10 +12,13 @@
 #include "sum.h"
 #include "text.h"
 
+enum { RULE_UNSAID = 1 }; /* the rule of what says none: programs that had no other did not say it */
+
 /* Which run. */
 struct run_id {
     struct hex origin;     /* of the channel that it began with, */
     uint32_t origin_step;  /* and its count */
+    uint32_t rule;         /* that its steps and filter passes follow, as PATHPETAL_RULE is */
     uint32_t filter_every; /* 0 for never */
     struct hex pour;       /* of the poured rows; "none" where nothing is poured */
 };
@@ -28,7 +31,7 @@ struct saved {
     struct hex sum;  /* of its first */
     uint64_t length; /* bytes, which end with a row */
     uint32_t rows, first; /* how many rows those are, and the step of the first */
-    size_t gauges;        /* one for each of its staffs; 0 where an earlier program wrote this, which had none */
+    size_t gauges;        /* one for each of its staffs; by the unsaid rule there may be none */
     struct gauge gauge[CELLS_MOST];
 };
 
@@ -42,11 +45,16 @@ struct beside {
     size_t count; /* of saved channels; 0 where nothing is known */
 };
 
-/* The three lines on a run, as they stand in NAME.run and, each after a mark, in a record. */
+/* The lines on a run, as they stand in NAME.run and, each after a mark, in a record; and taken apart: gives what
+   follows them, NULL if they are not there. They are a run's only if putting them together gives the same bytes. */
 void put_run(struct text *text, const char *mark, const struct run_id *run);
+const char *take_run(const char *lines, const char *mark, struct run_id *run);
 
-/* Whether two runs take the same filter passes and pour the same water; whether they also began with the same channel.
-   What differs is added to `how`. */
+/* A rule that is not this program's, in words: "an earlier program's rule (1)". */
+struct standing rule_words(uint32_t rule);
+
+/* Whether two runs follow the same rule, take the same filter passes and pour the same water; whether they also began
+   with the same channel. What differs is added to `how`. */
 bool same_options(const struct run_id *there, const struct run_id *here, struct text *how);
 bool same_run(const struct run_id *there, const struct run_id *here, struct text *how);
 

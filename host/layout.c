@@ -19,7 +19,7 @@ void put_head(struct text *text, const struct head *head)
     text_add(text, "# every %" PRIu32 " from step %" PRIu32 "\n", head->every, head->first);
 }
 
-/* Whether a head's numbers are such as a run has; its filter passes are not taken yet. */
+/* Whether a head's numbers are such as a run has, but for its filter passes. */
 static bool in_bounds(const struct head *head)
 {
     return strlen(head->run.origin.text) == 64 &&
@@ -33,19 +33,23 @@ static bool in_bounds(const struct head *head)
 size_t take_head(const char *lines, struct head *head)
 {
     struct text again = {0};
-    char every[16] = "";
     size_t length = 0;
+    const char *at;
     *head = (struct head){.every = 0};
-    if (sscanf(lines, "# origin %64[0-9a-f] at step %7" SCNu32 " # filter-every %15s # pour %64s # every %7" SCNu32
-               " from step %7" SCNu32, head->run.origin.text, &head->run.origin_step, every, head->run.pour.text,
-               &head->every, &head->first) != 6 || !in_bounds(head))
+    at = take_run(lines, "# ", &head->run);
+    if (!at || sscanf(at, "# every %7" SCNu32 " from step %7" SCNu32, &head->every, &head->first) != 2 ||
+        !in_bounds(head))
         return 0;
-    head->run.filter_every = (uint32_t)strtoul(every, NULL, 10); /* "none" is 0 */
     put_head(&again, head);
     if (strncmp(lines, again.at, again.length) == 0)
         length = again.length;
     free(again.at);
     return length;
+}
+
+size_t head_lines(const struct head *head)
+{
+    return head->run.rule > RULE_UNSAID ? HEAD_LINES_MOST : HEAD_LINES_MOST - 1;
 }
 
 void put_waves(struct text *text, const struct waves *waves)

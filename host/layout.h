@@ -2,6 +2,7 @@
 
        step,time_s,cell_10_um,cell_60_um
        # origin 6c0f... at step 0
+       # rule 2
        # filter-every 50
        # pour 8e1b...
        # every 10 from step 0
@@ -13,7 +14,8 @@
 
    The head says of which run the record is and which rows it has; the sum at the very end is that of all bytes before
    its own digits, so that nothing can be taken away or changed unseen. What the gauges counted stands there when the
-   run has ended, complete or open, and not while it goes. */
+   run has ended, complete or open, and not while it goes. A record of the unsaid rule has no line on it, and need not
+   have what gauges counted. */
 #ifndef LAYOUT_H
 #define LAYOUT_H
 
@@ -31,6 +33,10 @@ void put_head(struct text *text, const struct head *head);
 
 /* Takes apart the lines that follow the names; gives their length, 0 if they are no head. */
 size_t take_head(const char *lines, struct head *head);
+
+/* How many lines they are, and at most. */
+size_t head_lines(const struct head *head);
+enum { HEAD_LINES_MOST = 5 };
 
 /* The line on what a gauge counted, with its end; and taken apart, whether it is one. */
 void put_waves(struct text *text, const struct waves *waves);

@@ -227,7 +227,7 @@ static bool ends_saved(struct record *record, const struct saved *saved, const u
 bool record_done(struct record *record, const struct saved *saved, const uint8_t *file)
 {
     if (!record->named_whole || !saved->recorded || !begins_saved(record, record->named, saved) ||
-        (saved->gauges > 0 && !ends_saved(record, saved, file)))
+        !ends_saved(record, saved, file))
         return false;
     record->over_open = !record->made && open_is_own(record);
     return true;
@@ -331,8 +331,8 @@ enum status record_anew(struct record *record, const uint8_t *file, bool replace
     return STATUS_REFUSED;
 }
 
-/* Whether NAME, which is whole, tells counts of gauges that were placed where those of this run were; or tells none, as
-   an earlier program left it. Its rows alone can be those of a record that another START began. */
+/* Whether NAME, which is whole, tells counts of gauges that were placed where those of this run were. Its rows alone
+   can be those of a record that another START began. */
 static bool counts_alike(const struct record *record)
 {
     char bytes[TAIL_ROOM + 1] = "", *last = last_line(record->named, bytes), *line = last;
@@ -341,8 +341,6 @@ static bool counts_alike(const struct record *record)
         return false;
     while (line > bytes && line[-1] != '\n')
         line--;
-    if (line[0] != '#')
-        return true;
     last[1] = '\0';
     return take_waves(line, &waves) && waves.first == (int64_t)record->gauges.placed + 1;
 }

@@ -31,7 +31,7 @@ struct record {
     int found;         /* where the rows are that are kept: one of the two files, -1 for no rows */
     struct sum sum;    /* of the bytes that are kept or written */
     uint32_t rows;     /* among them */
-    bool ungauged;     /* rows were found, but not what the gauges were then */
+    bool ungauged;     /* rows were found, but the gauges that were saved cannot be theirs */
     struct gauges gauges; /* one for each marked cell */
     char *line;        /* room for a row */
 };
@@ -45,12 +45,11 @@ enum status record_open(struct record *record, const struct run_id *run);
 /* The step of the first row of a record that begins with a channel. */
 uint32_t record_first(const struct record *record, const uint8_t *file);
 
-/* Whether NAME is whole, and the record that a complete channel was saved with: what the gauges counted too, where that
-   is known. */
+/* Whether NAME is whole, and the record that a complete channel was saved with: what the gauges counted too. */
 bool record_done(struct record *record, const struct saved *saved, const uint8_t *file);
 
-/* Whether the rows that a saved channel has behind it are there, as it was saved with them, and its gauges are known;
-   they are kept then. */
+/* Whether the rows that a saved channel has behind it are there, as it was saved with them, and its gauges can be its
+   own; they are kept then. */
 bool record_find(struct record *record, const struct saved *saved, const uint8_t *file);
 
 /* The same for a channel that begins the record, or goes on with one whose rows are lost: nothing is kept, and the

@@ -414,6 +414,15 @@ static enum status read_start(struct run *run, struct beside *beside)
     return status;
 }
 
+/* Refuses a START that the run cannot go on with. */
+static enum status taken_otherwise(const struct run *run, bool same_rule, const char *how)
+{
+    say("%s: its last steps were taken %s: %s", run->start, same_rule ? "with other options" : "by another rule", how);
+    say("%s; or, to begin a run of its own from it, copy it under another name",
+        same_rule ? "give the same options" : "begin again with the channel that its run began with");
+    return STATUS_REFUSED;
+}
+
 /* Which run this is: by what stands beside START, where that is one that a run has saved. */
 static enum status know_start(struct run *run, const struct beside *beside)
 {
@@ -425,11 +434,10 @@ static enum status know_start(struct run *run, const struct beside *beside)
     run->id.origin_step = accepted;
     found = beside_find(beside, &run->id.origin);
     if (found && found->step == accepted && accepted > beside->run.origin_step) {
-        if (!same_options(&beside->run, &run->id, &how) && !pathpetal_complete(run->channel.bytes)) {
-            say("%s: its last steps were taken with other options: %s", run->start, how.at);
-            say("give the same options; or, to begin a run of its own from it, copy it under another name");
-            status = STATUS_REFUSED;
-        }
+        bool same_rule = beside->run.rule == run->id.rule;
+        /* no option does anything to a complete channel, but an END of another rule is none of this one */
+        if (!same_options(&beside->run, &run->id, &how) && !(same_rule && pathpetal_complete(run->channel.bytes)))
+            status = taken_otherwise(run, same_rule, how.at);
         run->id = beside->run;
         run->start_saved = *found;
     } else if (accepted > 0 && !found) {
@@ -439,17 +447,16 @@ static enum status know_start(struct run *run, const struct beside *beside)
     return status;
 }
 
-/* The count of the channel that the gauges of a saved record were placed in; that of its first row where no gauges are
-   known. */
+/* The count of the channel that the gauges of a saved record were placed in. */
 static int64_t placed_at(const struct saved *saved)
 {
-    return saved->gauges > 0 ? saved->step - saved->gauge[0].numbers[GAUGE_FED] : saved->first;
+    return saved->step - saved->gauge[0].numbers[GAUGE_FED];
 }
 
-/* Whether a record was saved that has its first row at a step, and its gauges, if they are known, from a count on. */
+/* Whether a record was saved that has its first row at a step, and its gauges from a count on. */
 static bool begins_at(const struct saved *saved, uint32_t first, int64_t placed)
 {
-    return saved->recorded && saved->first == first && (saved->gauges == 0 || placed_at(saved) == placed);
+    return saved->recorded && saved->first == first && placed_at(saved) == placed;
 }
 
 /* Whether a record that was saved begins where one does that goes on from START, or begins there. */
@@ -479,8 +486,8 @@ static bool goes_on_from(struct run *run, const struct save *left)
         say("%s: is of this run, but its waves are counted from step %s on: it is not gone on with, and stays",
             left->path, GROUPED(placed_at(&left->stands) + 1));
     else if (run->record.ungauged)
-        say("%s: is of this run, but nothing beside it says what its gauges had counted: it is not gone on with, and "
-            "stays", left->path);
+        say("%s: is of this run, but the gauges beside it cannot be its own: it is not gone on with, and stays",
+            left->path);
     else
         say("%s: is of this run, but %s has not the rows that belong to it: it is not gone on with, and stays",
             left->path, run->record.open_path);
@@ -494,8 +501,7 @@ static enum status choose_record(struct run *run)
         return STATUS_DONE;
     if (!run->record.ungauged)
         return record_anew(&run->record, run->channel.bytes, run->replace);
-    say("%s: nothing beside it says what the gauges of its record had counted: an earlier program saved it",
-        run->start);
+    say("%s: the gauges beside it cannot be its own", run->start);
     say("give the command that this run began with, or record under another name");
     return STATUS_REFUSED;
 }
@@ -616,6 +622,7 @@ enum status run_command(int count, char **words)
                                {.name = NULL}};
     struct run *run = room_for(1, sizeof *run);
     enum status status;
+    run->id.rule = PATHPETAL_RULE;
     run->end.use = "END";
     run->checkpoint.use = "the checkpoint";
     run->end.beside.file = run->checkpoint.beside.file = -1;

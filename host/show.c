@@ -1,5 +1,5 @@
 /* show.c: a channel file or a staff record in a few lines, and as a picture. */
-#include "channel.h"
+#include "beside.h"
 #include "commands.h"
 #include "options.h"
 #include "pictures.h"
@@ -16,8 +16,31 @@ static struct grouped in_mm(int64_t um)
     return thousandths(um);
 }
 
-static void tell_channel(const char *path, const uint8_t *file)
+/* Tells the rule that steps were taken by, where it is not this program's. */
+static void tell_rule(uint32_t rule)
 {
+    if (rule != PATHPETAL_RULE)
+        tell("  its steps were taken by %s; this program's is %d", rule_words(rule).text, PATHPETAL_RULE);
+}
+
+/* The rule that a channel's steps were taken by; this program's where nothing beside it says it. */
+static uint32_t rule_of(const char *path, const struct channel *channel)
+{
+    struct hex sum = sum_of(channel->bytes, channel->length);
+    struct beside beside;
+    uint32_t rule = PATHPETAL_RULE;
+    if (beside_read(path, &beside) == STATUS_DONE) {
+        const struct saved *found = beside_find(&beside, &sum);
+        if (found && found->step > beside.run.origin_step)
+            rule = beside.run.rule;
+    }
+    beside_free(&beside);
+    return rule;
+}
+
+static void tell_channel(const char *path, const struct channel *channel)
+{
+    const uint8_t *file = channel->bytes;
     uint32_t cells = pathpetal_cells(file), step_ms = pathpetal_step_ms(file);
     size_t low = 0, high = 0;
     for (size_t cell = 1; cell < cells; cell++) {
@@ -28,6 +51,7 @@ static void tell_channel(const char *path, const uint8_t *file)
     }
     tell("%s", path);
     tell("  %s", standing(file).text);
+    tell_rule(rule_of(path, channel));
     tell("  time run       %s s of %s s, in steps of %s ms",
          THOUSANDTHS((int64_t)pathpetal_accepted(file) * step_ms),
          THOUSANDTHS((int64_t)pathpetal_wanted(file) * step_ms), GROUPED(step_ms));
@@ -54,6 +78,7 @@ static void tell_staffs(const char *path, const struct staffs *staffs)
 {
     tell("%s", path);
     tell("  %s", staffs_standing(staffs).text);
+    tell_rule(staffs->rule);
     tell("  %s row%s, from %s s to %s s; lowest and highest are those of the rows", GROUPED((int64_t)staffs->rows),
          staffs->rows == 1 ? "" : "s", THOUSANDTHS(staffs->times[0]), THOUSANDTHS(staffs->times[staffs->rows - 1]));
     for (size_t k = 0; k < staffs->count; k++) {
@@ -92,7 +117,7 @@ static enum status show_channel(const char *path, const char *picture, bool repl
         status = write_picture("FILE", path, picture, &svg, replace);
     }
     if (status == STATUS_DONE) {
-        tell_channel(path, channel->bytes);
+        tell_channel(path, channel);
         status = told();
     }
     free(svg.at);

@@ -7,8 +7,7 @@
 #include <string.h>
 
 enum {
-    HEAD_LINES = 4,      /* of a head after the names of the columns */
-    LINE_LONGEST = 200,  /* bytes of such a line, of one on what a gauge counted, and more */
+    LINE_LONGEST = 200,  /* bytes of a line of the head, of one on what a gauge counted, and more */
     WAVE_MOST = 39999000 /* um, from the lowest to the highest that a channel can hold */
 };
 
@@ -66,7 +65,7 @@ struct lines {
     struct waves *waves;   /* what gauges counted, by the first lines that tell it, as many as there can be cells */
     size_t counts;         /* how many such lines there are, */
     unsigned long counted; /* and which is the last, from 1 */
-    struct text head;   /* the lines that follow the names: as many as a head has */
+    struct text head;   /* the lines that follow the names: as many as a head can have */
     struct sum sum;     /* of all lines */
     struct sum before;  /* of all but the last */
     struct text last;   /* the last, with its end; the beginning alone of one that is too long */
@@ -76,7 +75,7 @@ static void take_line(void *to, const char *line, size_t length)
 {
     struct lines *lines = to;
     struct waves waves;
-    if (lines->count > 0 && lines->count <= HEAD_LINES)
+    if (lines->count > 0 && lines->count <= HEAD_LINES_MOST)
         text_add_bytes(&lines->head, line, length < LINE_LONGEST ? length : LINE_LONGEST);
     lines->count++;
     lines->before = lines->sum;
@@ -118,7 +117,7 @@ static bool agree(const struct lines *lines, const struct head *head, const stru
                   const struct staffs *staffs)
 {
     uint32_t last = (uint32_t)rows->last;
-    return lines->count == 1 + HEAD_LINES + staffs->rows + lines->counts + 1 && !rows->uneven &&
+    return lines->count == 1 + head_lines(head) + staffs->rows + lines->counts + 1 && !rows->uneven &&
            tail->rows == staffs->rows && head->first == staffs->first && tail->first == staffs->first &&
            (rows->every == 0 || rows->every == head->every) && tail->accepted >= last &&
            (uint64_t)tail->accepted < (uint64_t)last + head->every && tail->accepted <= tail->wanted &&
@@ -171,12 +170,14 @@ static void judge(const struct csv *csv, const struct lines *lines, const struct
     } else if (ended && !headed && !tail.summed) {
         staffs->whole = RECORD_OLD;
     } else if (ended && headed && tail.summed && sum_is_right(lines, csv->remark, &tail) &&
-               agree(lines, &head, rows, &tail, staffs) && (lines->counts == 0 || counted)) {
+               agree(lines, &head, rows, &tail, staffs) &&
+               (counted || (lines->counts == 0 && head.run.rule == RULE_UNSAID))) {
         staffs->whole = tail.complete ? RECORD_COMPLETE : RECORD_OPEN;
         staffs->counted = counted;
         staffs->accepted = tail.accepted;
         staffs->wanted = tail.wanted;
     }
+    staffs->rule = headed && staffs->whole != RECORD_CHANGED ? head.run.rule : PATHPETAL_RULE;
 }
 
 /* Looks at a time beside its step. */

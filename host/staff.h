@@ -22,6 +22,7 @@ struct staffs {
     uint32_t accepted; /* the count that the record has come to */
     uint32_t wanted;   /* 0 where the record does not say it */
     int64_t step_ms;   /* the time of a step; 0 where no row tells it */
+    uint32_t rule;     /* that the run's steps followed; this program's where the record does not say it */
     enum whole whole;
     bool counted;      /* it is whole, complete or open, and says what its gauges counted: */
     struct waves *waves; /* of each staff */
@@ -40,7 +41,7 @@ struct standing staffs_standing(const struct staffs *staffs);
    140 steps from step 161 on". */
 struct standing fed_words(const struct staffs *staffs);
 
-/* The complete waves at a staff, in um or, for a picture, in mm: "22 waves, mean 50,848 um, largest 134,131 um", "no
+/* The complete waves at a staff, in um or, for a picture, in mm: "22 waves, mean 50,836 um, largest 134,130 um", "no
    complete wave". */
 struct standing waves_words(const struct waves *waves, bool in_mm);
 

@@ -23,6 +23,8 @@
    depth in mm, height above still water in um, velocity in um/s, reduced velocity in um/s (4 bytes a cell,
    signed), flux in um2/s (3 levels of n - 1 faces) and acceleration in um/s2 (3 levels of n cells; 8 bytes each,
    signed). It is complete exactly when as many steps are accepted as are wanted: pathpetal_complete asks that.
+   The count of steps accepted also chooses the next step's time weights, which a first and a second step have of their
+   own: change neither by hand.
 
    THE GAUGES are 512 bytes, all zeros while there is none: eight places of 64 bytes, each empty (all zeros) or one
    gauge, in eight numbers of 8 bytes, little-endian and signed:
@@ -49,6 +51,10 @@
 
 #include <stddef.h>
 #include <stdint.h>
+
+/* The rule by which steps and filter passes are taken: 1 before the start ladder, 2 with it. It grows whenever a call
+   gives other numbers for the same input, so that a host can tell what it may go on with. */
+#define PATHPETAL_RULE 2
 
 #ifdef __cplusplus
 extern "C" {

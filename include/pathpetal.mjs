@@ -35,6 +35,12 @@
 // Browsers and node of 2021 or later: the file takes 64-bit numbers as BigInt, which this module hides, and copies
 // memory by the engine's own instructions.
 
+/**
+ * The rule by which steps and filter passes are taken, as in pathpetal.h: 1 before the start ladder, 2 with it. It
+ * grows whenever a call gives other numbers for the same input, so that a page can tell what it may go on with.
+ */
+export const RULE = 2;
+
 /** The bytes of gauges: `new Uint8Array(GAUGES_LENGTH)` holds none. */
 export const GAUGES_LENGTH = 512;
 

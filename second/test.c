@@ -304,8 +304,8 @@ static void newest_alone(void)
         rig.c.Q.at[3] = 12000000;
         trial(&k, &rig);
         check_number(predict(&k, &rig.c, rig.s.at), 0, "the newest level predicts");
-        check_number(k.e[GHOST + 3], -due[rungs[i].rung], "W of the newest level, left of the face");
-        check_number(k.e[GHOST + 4], due[rungs[i].rung], "W of the newest level, right of it");
+        check_number(k.e[GHOST + 3], -due[rungs[i].rung], "the newest level, left of its face");
+        check_number(k.e[GHOST + 4], due[rungs[i].rung], "the newest level, right of it");
     }
 }
 

@@ -188,15 +188,17 @@ def filters(drive, report, full, out):
     channel.filter()
     report.exact("heights, waves of 2 cells: nothing is left away from walls", channel.look()[0][4:12] == [0] * 8,
                  f"cells 5 to 12: {channel.look()[0][4:12]}")
-    speeds, along = [], [math.sin(math.pi * 2 / 3 * (j + 0.5)) for j in range(N)]
-    for passed in (False, True):
-        channel = Channel(drive, 1000, 1, 1000, whole(1e5 * v for v in mode(N, 2 * N // 3)))
-        if passed:
-            channel.filter()
-        channel.walk(1)
-        speeds.append(part(channel.look()[1], along))
-    report.row("the step after a pass, waves of 3 cells from rest: velocities", speeds[1] / speeds[0],
-               (28 * theory.filter_factor(3) - 4) / 24, "", 1e-3, False)
+    along, left = [math.sin(math.pi * 2 / 3 * (j + 0.5)) for j in range(N)], theory.filter_factor(3)
+    for accepted, (_, (trial, newest, *older)) in enumerate(theory.LADDER):
+        speeds = []
+        for passed in (False, True):
+            channel = Channel(drive, 1000, 1, 1000, whole(9e5 * v for v in mode(N, 2 * N // 3)), accepted=accepted)
+            if passed:
+                channel.filter()
+            channel.walk(1)
+            speeds.append(part(channel.look()[1], along))
+        report.row(f"step {accepted + 1} after a pass, waves of 3 cells from rest: velocities", speeds[1] / speeds[0],
+                   ((trial + newest) * left + sum(older)) / 24, "", 1e-3, False)
     if full:
         chart = Chart("One filter pass", "cells in a wave", "what is left of the wave", (2, 16), (0, 1.05))
         chart.line([(2 + 0.1 * i, theory.filter_factor(2 + 0.1 * i)) for i in range(141)], "1 - sin⁸(π / cells)", 0)

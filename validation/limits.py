@@ -12,6 +12,7 @@ LONG = 6000  # steps of each run behind the table of what to choose
 GROWN = 1.05  # a run whose waves grow to more than this is not safe
 BOUND = math.sqrt(6)  # Courant number of 9,810 h T² = 6,000,000 X²
 ADVISED = 0.35  # Courant number that the tables below are made with
+ONCE = theory.LATER  # a file that says so many accepted steps takes the later weights from its first step on, as all did once
 
 
 def courant(h, X, T):
@@ -42,6 +43,28 @@ def passes(every):
     return f"a pass every {every} steps" if every else "no filter"
 
 
+def alike(drive, report):
+    """Low waves in very shallow water. Those of 8 cells repeat to the µm along the channel, so that 16 cells tell as much as
+    64; others do not repeat."""
+    times = range(56, 84)
+    report.say(f"low waves refused with 10 though they have not grown: 200 to 600 µm high, h 20, X 100, T {times[0]} to "
+               f"{times[-1]}, {STEPS} steps:")
+    for N, m, heights in ((16, 4, range(200, 601, 10)), (64, 15, range(200, 601, 40))):
+        refused = []
+        for height in heights:
+            start = whole(height * v for v in mode(N, m))
+            for T in times:
+                walk = Channel(drive, 100, T, 20, start).walk(STEPS)
+                if walk.number:
+                    refused.append((T, walk.number))
+        said = f"{len(refused):,} of {len(heights) * len(times):,} runs"
+        if refused:
+            low, high = min(refused)[0], max(refused)[0]
+            said += f", T {low} to {high}, Courant number {courant(20, 100, low):.2f} to {courant(20, 100, high):.2f}"
+        report.exact(f"  waves of {2 * N / m:.3g} cells, N {N}",
+                     all(number == 10 for _, number in refused) and (N == 16 or not refused), said)
+
+
 def growth(drive, report, out):
     report.head("Limit 1: waves grow when steps take two or more corrections")
     report.say("growth in 1,500 steps by the scheme's weights, by how far a wave should turn in a step (radians):")
@@ -49,15 +72,17 @@ def growth(drive, report, out):
         report.say(f"  {angle:.2f} ({TURN / angle:4.1f} steps a period): " + ", ".join(
             f"{k} correction{'s' if k > 1 else ''} {abs(theory.step_factor(angle, k)) ** STEPS:.4g}" for k in (1, 2, 3, 10)))
     X, safe = 100, {8: [], 16: []}
-    report.say(f"longest time step T up to which every whole ms is safe: {STEPS} steps, no refusal, growth at most 5 %")
-    report.say(f"(X {X}, N 64):")
+    report.say(f"longest time step T up to which waves grow by at most 5 % in {STEPS} steps at every whole ms, and are not")
+    report.say(f"refused, but for 10 of waves that have not grown, see below (X {X}, N 64):")
     for ratio in (0.2, 0.5, 1, 2, 5, 10):
         h = int(ratio * X)
         for cells in (8, 16):
-            T = 0
+            T, unsettled = 0, []
             while T < 100:
                 walk, sizes = short_waves(drive, h, X, T + 1, cells)
-                if walk.number or max(sizes) > GROWN:
+                if walk.number == 10 and max(sizes) <= GROWN:
+                    unsettled.append(f"; T {T + 1}: {ending(walk)}, grown to {max(sizes):.3f}")
+                elif walk.number or max(sizes) > GROWN:
                     break
                 T += 1
             k = TURN / (cells * X / 1000)
@@ -65,9 +90,10 @@ def growth(drive, report, out):
             safe[cells].append((ratio, courant(h, X, T)))
             after = f"T {T + 1}: {ending(walk)}, grown to {max(sizes):.3f}" if T < 100 else "the longest allowed"
             report.say(f"  depth over width {ratio:>4}, waves of {cells:>2} cells: T {T:>3} ms, Courant number "
-                       f"{courant(h, X, T):.2f}, {TURN / turn:.0f} steps a period; {after}")
+                       f"{courant(h, X, T):.2f}, {TURN / turn:.0f} steps a period; {after}{''.join(unsettled)}")
     least = min(c for points in safe.values() for _, c in points)
     report.exact(f"a Courant number of {ADVISED} is below all of these", ADVISED <= least, f"least {least:.3f}")
+    alike(drive, report)
     report.say("a bound on the Courant number such as 9,810 h T² <= 6,000,000 X² (2.449) lets these pass:")
     for ratio, X in ((2, 20), (5, 50), (10, 100), (25, 20)):
         h = ratio * X
@@ -203,43 +229,104 @@ def still(drive, report, out):
     chart.save(f"{out}/still.svg")
 
 
-def late(drive, report, out):
-    report.head("Limit 4: the first steps start late")
-    N, X, h, T = 64, 2000, 20000, 100
-    start = hump(N, 20000, 3)
-    parts = [sum(start) / N] + [part(start, mode(N, m)) for m in range(1, N)]
-    turns = [0] + [theory.on_grid(math.pi * m / (N * X / 1000), h / 1000, X / 1000) for m in range(1, N)]
-    cell = N // 2
+def let_go(drive, X, T, h, start, accepted, steps):
+    """Water let go at rest: its heights after each step, and the corrections that each took."""
+    channel, rows, corrections = Channel(drive, X, T, h, start, accepted=accepted), [], []
+    for _ in range(steps):
+        walk = channel.walk(1, 1)
+        rows += walk.rows
+        corrections.append(walk.most())
+    return rows, corrections
+
+
+def falls(drive, X, T, h, height, half_width, accepted, steps):
+    """How far the middle of a hump falls from rest, after each step, over how far it should: measured, and by the weights. Each
+    is the mean of a hump and a hollow, so that it does not count that the water is deeper below a crest. And the hump's
+    corrections."""
+    N, cell, sums = 64, 32, [[0.0] * steps for _ in range(3)]
+    turns = [theory.on_grid(math.pi * m / (N * X / 1000), h / 1000, X / 1000) * T / 1000 if m else 0 for m in range(N)]
     at = [math.cos(math.pi * m * (cell + 0.5) / N) for m in range(N)]
-    walk = Channel(drive, X, T, h, start).walk(12, 1)
-    points = []
-    report.say(f"a hump of 20 mm let go at rest, N {N}, X {X}, h {h}, T {T}: how far its middle has fallen, over the same cells")
-    report.say("exact in time; beside it what the weights of the first steps make of a steady pull")
-    for n in range(1, 13):
-        true = start[cell] - sum(a * c * math.cos(w * n * T / 1000) for a, c, w in zip(parts, at, turns))
-        fallen = start[cell] - walk.rows[n - 1][cell]
-        points.append((n, fallen / true))
-        if n <= 4:
-            due = {1: 0.75, 2: 46 / 48, 3: 106 / 108, 4: 190 / 192}[n]
-            report.row(f"step {n}: fallen over true", fallen / true, due, "", 0.01, False)
-    later = [n - math.sqrt(n * n * r) for n, r in points[:4]]
-    report.say("  late by " + ", ".join(f"{v:.3f}" for v in later) + " of a time step after steps 1 to 4")
-    k = math.pi * 16 / (64 * 2)
-    turn, factor = theory.stepped(k, 5, 2, 0.1, 1)
-    shape = mode(64, 16)
-    walk = Channel(drive, 2000, 100, 5000, whole(5000 * v for v in shape)).walk(200, 1)
-    seen = [part(row, shape) / 5000 / factor ** (n + 1) for n, row in enumerate(walk.rows)][4:]
-    whole_swings = int(TURN / (turn * 0.1) * 5 + 0.5)
-    z = sum(v * cmath.exp(1j * turn * 0.1 * (n + 5)) for n, v in enumerate(seen[:whole_swings])) * 2 / whole_swings
-    report.say(f"afterwards, a standing wave of {TURN / turn / 0.1:.0f} steps a period:")
-    report.row("  its height over that of the start, 1 + (angle a step)²/12", abs(z), 1 + (turn * 0.1) ** 2 / 12, "",
-               0.002, False)
-    report.row("  how late its phase is, in time steps", cmath.phase(z) / (turn * 0.1), 0, "", 0.02, False)
+    for up in (-height, height):
+        start = hump(N, up, half_width)
+        rows, corrections = let_go(drive, X, T, h, start, accepted, steps)
+        parts = [(sum(start) / N if m == 0 else part(start, mode(N, m))) * at[m] for m in range(N)]
+        stepped = [theory.first_steps(turn, corrections, accepted) for turn in turns]
+        for n in range(steps):
+            sums[0][n] += (start[cell] - rows[n][cell]) / up
+            sums[1][n] += sum(a * (1 - y[n].real) for a, y in zip(parts, stepped)) / up
+            sums[2][n] += sum(a * (1 - math.cos(turn * (n + 1))) for a, turn in zip(parts, turns)) / up
+    return ([a / c for a, c in zip(sums[0], sums[2])], [b / c for b, c in zip(sums[1], sums[2])], corrections)
+
+
+def stays(drive, X, T, h, heights, accepted):
+    """What stays of the first steps in standing wave 15 of 64 cells: its height over the start's and how late it is in time
+    steps, against one that turned from the start as it does later. The mean of waves of these heights, and the same by the
+    weights; and the most corrections that each of the first four steps took."""
+    shape, seen, due, skipped, most = mode(64, 15), 0, 0, 20, [0] * 4
+    angle, own, factor = turning_15(X, T, h)
+    for height in heights:
+        start = whole(height * v for v in shape)
+        rows, corrections = let_go(drive, X, T, h, start, accepted, 200)
+        swings = [part(row, shape) / part(start, shape) / factor ** (n + 1) for n, row in enumerate(rows)]
+        seen += swing(swings[skipped:], own, skipped + 1) / len(heights)
+        due += theory.kept(angle, corrections[:skipped], accepted).conjugate() / len(heights)
+        most = [max(pair) for pair in zip(most, corrections)]
+    return [(abs(z), cmath.phase(z) / own) for z in (seen, due)], most
+
+
+def turning_15(X, T, h):
+    """Standing wave 15 of 64 cells: its angle a step exact in time, as stepped with one correction, and that step's factor."""
+    k = math.pi * 15 / (64 * X / 1000)
+    own, factor = theory.stepped(k, h / 1000, X / 1000, T / 1000, 1)
+    return theory.on_grid(k, h / 1000, X / 1000) * T / 1000, own * T / 1000, factor
+
+
+def swing(series, angle, first):
+    """The a cos + b sin nearest to a series that turns by that angle from one number to the next, the first of them turned
+    by so many: a + ib."""
+    wave = [(math.cos(angle * n), math.sin(angle * n)) for n in range(first, first + len(series))]
+    cc, cs, ss = (sum(w[i] * w[j] for w in wave) for i, j in ((0, 0), (0, 1), (1, 1)))
+    c, s = (sum(v * w[i] for v, w in zip(series, wave)) for i in (0, 1))
+    return complex(c * ss - s * cs, s * cc - c * cs) / (cc * ss - cs * cs)
+
+
+def first_steps(drive, report, out):
+    report.head("Limit 4: the first two steps")
+    report.say("before: the later weights from the first step on, which a file takes that says 2 accepted steps at its start")
+    ways, shown, lines = ((ONCE, "before"), (0, "now")), (1, 2, 3, 4, 10), {}
+    for accepted, label in ways:
+        report.say(f"{label}: under a steady pull, how far it has fallen over what it should, by the weights of steps 1 to 4: "
+                   + ", ".join(str(theory.steady_pull(n, accepted)) for n in shown[:4]))
+    for h, X, T, height in ((20000, 2000, 100, 200), (1000, 500, 55, 50)):
+        report.say(f"a hump of {height} mm let go at rest, N 64, X {X}, h {h}, T {T}, Courant number "
+                   f"{courant(h, X, T):.2f}: how far its middle has")
+        report.say("fallen, over the same cells exact in time; beside it what the weights make of it")
+        for accepted, label in ways:
+            seen, due, corrections = falls(drive, X, T, h, 1000 * height, 3, accepted, 12)
+            for n in shown:
+                report.row(f"{label}, step {n}: fallen over true", seen[n - 1], due[n - 1], "", 0.002, False)
+            report.say("  late by " + ", ".join(f"{n - n * math.sqrt(seen[n - 1]):.3f}" for n in shown)
+                       + " of a time step after steps 1, 2, 3, 4 and 10; corrections " + " ".join(map(str, corrections[:4])))
+            if h == 20000:
+                lines[label] = list(enumerate(seen, 1))
+    for h, X, T, heights in ((5000, 2000, 100, range(4000, 6001, 250)), (1000, 500, 55, range(800, 1201, 25))):
+        angle, _, _ = turning_15(X, T, h)
+        report.say(f"afterwards, standing waves of {heights[0] / 1000:g} to {heights[-1] / 1000:g} mm, N 64, X {X}, h {h}, T {T}, "
+                   f"mode 15: {TURN / angle:.1f} steps a")
+        report.say(f"period, the square of the angle a step over 12 is {angle ** 2 / 12:.5f}")
+        for accepted, label in ways:
+            (seen, due), most = stays(drive, X, T, h, heights, accepted)
+            report.row(f"{label}: its height over that of the start", seen[0], due[0], "", 0.0002, False)
+            report.row("  how late its phase is, in time steps", seen[1], due[1], "", 0.001, False)
+            report.exact("  most corrections of steps 1 to 4", most == [3, 2 if accepted == 0 else 3, 1, 1],
+                         " ".join(map(str, most)))
     chart = Chart("A hump let go at rest: how far it has fallen in the first steps", "step",
                   "fallen over what it should have", (0, 12), (0.7, 1.05))
     chart.line([(0, 1), (12, 1)], "exact in time", 7, "2 4", 1.2)
-    chart.line(points, "measured", 0)
-    chart.marks(points, None, 0)
+    for colour, label, said in ((1, "before", "before: the later weights from step 1 on"),
+                                (0, "now", "now: weights of their own in steps 1 and 2")):
+        chart.line(lines[label], said, colour)
+        chart.marks(lines[label], None, colour)
     chart.save(f"{out}/first-steps.svg")
 
 
@@ -385,4 +472,4 @@ def airy_length(period, depth):
     return TURN / k
 
 
-ALL = (growth, noise, still, late, wide_cells, safe_table, example)
+ALL = (growth, noise, still, first_steps, wide_cells, safe_table, example)

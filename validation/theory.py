@@ -4,6 +4,7 @@ Equations and sections are those of Wei and Kirby, 'Simulation of water waves by
 CACR-98-02, University of Delaware, 1998, unless another source is named."""
 import cmath
 import math
+from fractions import Fraction
 
 G = 9.81
 LEVEL = -0.531  # the reference level over the depth
@@ -44,12 +45,45 @@ def on_grid(k, h, x):
     return math.sqrt(G * slope * flux / (1 - ALPHA * h ** 2 * bend))
 
 
-def step_weights(z, corrections):
-    """A step of y' = z y (time step 1) is y' = c0 y + c1 y(-1) + c2 y(-2): c0, c1, c2, by (3.56) and (3.69)."""
-    c = [1 + 23 * z / 12, -16 * z / 12, 5 * z / 12]
+# Time weights of a channel's first step, of its second and of every later one, (3.56) and (3.69): the prediction's in parts of
+# 12, the corrections' in parts of 24, the trial's first.
+LADDER = (((12, 0, 0), (12, 12, 0, 0)), ((18, -6, 0), (10, 16, -2, 0)), ((23, -16, 5), (9, 19, -5, 1)))
+LATER = len(LADDER) - 1
+
+
+def step_weights(z, corrections, accepted=LATER):
+    """A step of y' = z y (time step 1) is y' = c0 y + c1 y(-1) + c2 y(-2): c0, c1, c2, after so many accepted steps."""
+    predicted, (trial, *corrected) = LADDER[min(accepted, LATER)]
+    c = [w * z / 12 for w in predicted]
+    c[0] += 1
     for _ in range(corrections):
-        c = [1 + 19 * z / 24 + 9 * z / 24 * c[0], -5 * z / 24 + 9 * z / 24 * c[1], z / 24 + 9 * z / 24 * c[2]]
+        c = [w * z / 24 + trial * z / 24 * v for w, v in zip(corrected, c)]
+        c[0] += 1
     return c
+
+
+def first_steps(angle, corrections, accepted=0):
+    """A wave that should turn by angle in a step and whose past is filled with its start, 1, after each of the steps that take
+    these corrections, from so many accepted steps on. What is let go at rest is the real part."""
+    y = [1, 1, 1]
+    for n, number in enumerate(corrections):
+        y.append(sum(c * v for c, v in zip(step_weights(1j * angle, number, accepted + n), y[:-4:-1])))
+    return y[3:]
+
+
+def kept(angle, corrections, accepted=0):
+    """What is left of the first steps in a wave that goes on with one correction a step: what it is multiplied by for good."""
+    y, own = [1, 1, 1] + first_steps(angle, corrections, accepted), step_factor(angle, 1)
+    c0, _, c2 = step_weights(1j * angle, 1)
+    others, product = c0 - own, c2 / own  # the sum and the product of the two factors that die away
+    return (y[-1] - others * y[-2] + product * y[-3]) / (own ** 2 - others * own + product) / own ** (len(corrections) - 2)
+
+
+def steady_pull(steps, accepted=0):
+    """How far something falls from rest in so many steps under a steady pull, over how far it should."""
+    fallen = sum(Fraction(w * max(0, n + 1 - level), 24)
+                 for n in range(steps) for level, w in enumerate(LADDER[min(accepted + n, LATER)][1]))
+    return 2 * fallen / steps ** 2
 
 
 def step_factor(angle, corrections):

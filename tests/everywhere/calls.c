@@ -1,6 +1,7 @@
 /* calls write CALLS: draws calls of pathpetal.h from one seed and writes them to the file CALLS. What each would
    answer is asked of the second program, so that accepted calls, each refusal at each stage, the first, middle and last
-   places of those that have one, and each k from 1 to 10 all have their share. The calls of gauges come last.
+   places of those that have one, each k from 1 to 10, and each count of accepted steps that the weights of a step hang
+   on all have their share. The calls of gauges come last.
    calls table CALLS ANSWERS: prints how often each answer occurred; fails if one that is known to occur did not, or if
    a call touched a byte that is not its own.
    calls differ CALLS ANSWERS OTHERS..: prints the first calls that one of the OTHERS answers differently, and last 'N
@@ -42,8 +43,37 @@ static long total[DO_KINDS], answered[DO_KINDS][REASONS][STAGES], settled[STAGES
 enum { GAUGES = 8 };
 static long of_gauges[DO_KINDS][2], got[GAUGES + 1];
 
-/* How often a flux and an acceleration were refused in one level while an older one has a fault at a lower place. */
-static long older_lower[2];
+/* How often a flux and an acceleration were refused in one level while an older one has a fault at a lower place; and
+   in a step or a run whose next step has no weight for the level. */
+static long older_lower[2], unweighed[2];
+
+/* The count of accepted steps that a step or a run starts from. One whose lowest byte alone is 0 or 1 is a later one
+   too, and the last before the wanted is one of the others. How often it took a step, and was refused at a stage. */
+enum { FROM_LATER = 4, FROM_BYTE, FROM_LAST, STARTS };
+static const char *const starts[STARTS] = {"0", "1", "2", "3", "later", "256, 257..", "wanted - 1"};
+static long started[DO_KINDS][STARTS][2];
+
+static bool starts_from(const struct record *r, int start)
+{
+    const uint8_t *file = r->string[FILE_STRING].at;
+    uint32_t accepted = pathpetal_accepted(file);
+    switch (start) {
+    case FROM_LATER: return accepted >= FROM_LATER;
+    case FROM_BYTE: return accepted >= FROM_LATER && accepted % 256 < 2;
+    case FROM_LAST: return accepted + 1 == pathpetal_wanted(file);
+    default: return accepted == (uint32_t)start;
+    }
+}
+
+/* Whether a step or a run came to its stages, and was refused at one of them or took a step. */
+static bool came_to_stages(const struct record *r, uint64_t answer, bool *refused)
+{
+    unsigned number = pathpetal_number(answer);
+    bool dry = number == PATHPETAL_DEPTH &&
+               (pathpetal_stage(answer) || by_second_check(r->string[FILE_STRING].at, r->string[FILE_STRING].len) == 0);
+    *refused = dry || (number >= 6 && number <= 10);
+    return (r->kind == DO_STEP || r->kind == DO_RUN) && (*refused || pathpetal_count(answer) > 0);
+}
 
 static bool has_place(unsigned number)
 {
@@ -78,11 +108,18 @@ static unsigned lowest_in_level(const struct record *r, unsigned number, unsigne
     return place;
 }
 
-static bool lower_in_older(const struct record *r, unsigned number, unsigned place)
+/* The level that a refusal's place is in. */
+static unsigned level_told(const struct record *r, unsigned number, unsigned place)
 {
     unsigned level = 0;
     while (level < 3 && lowest_in_level(r, number, level) != place)
         level++;
+    return level;
+}
+
+static bool lower_in_older(const struct record *r, unsigned number, unsigned place)
+{
+    unsigned level = level_told(r, number, place);
     while (++level < 3)
         if (lowest_in_level(r, number, level) < place)
             return true;
@@ -94,6 +131,13 @@ static bool is_of_gauges(const struct record *r, unsigned number)
     if (r->kind < DO_PLACE || (number != PATHPETAL_LENGTH && number != PATHPETAL_OFFSETS))
         return false;
     return r->kind == DO_READ || by_second_check(r->string[FILE_STRING].at, r->string[FILE_STRING].len) == 0;
+}
+
+/* The first step has no weight for any level but the newest, the second none for the oldest. */
+static bool is_unweighed(const struct record *r, unsigned number, unsigned place)
+{
+    return (r->kind == DO_STEP || r->kind == DO_RUN) &&
+           level_told(r, number, place) > pathpetal_accepted(r->string[FILE_STRING].at);
 }
 
 /* Counts an answer; 0 if it is none that a call can give. */
@@ -113,8 +157,10 @@ static bool counted(const struct record *r, uint64_t answer)
     answered[r->kind][number][stage]++;
     if (place)
         placed[r->kind][number][where(r, number, place)]++;
-    if (number == PATHPETAL_BAD_FLUX || number == PATHPETAL_BAD_ACCELERATION)
+    if (number == PATHPETAL_BAD_FLUX || number == PATHPETAL_BAD_ACCELERATION) {
         older_lower[number - PATHPETAL_BAD_FLUX] += lower_in_older(r, number, place);
+        unweighed[number - PATHPETAL_BAD_FLUX] += is_unweighed(r, number, place);
+    }
     shown[r->scene][r->kind]++;
     if (r->kind == DO_STEP && number == 0)
         settled[count]++;
@@ -122,6 +168,9 @@ static bool counted(const struct record *r, uint64_t answer)
         got[count]++;
     if (is_of_gauges(r, number))
         of_gauges[r->kind][number == PATHPETAL_OFFSETS]++;
+    bool refused, stages = came_to_stages(r, answer, &refused);
+    for (int start = 0; stages && start < STARTS; start++)
+        started[r->kind][start][refused] += starts_from(r, start);
     return true;
 }
 
@@ -173,6 +222,14 @@ static long missing(bool say, unsigned kinds)
                     if (say)
                         printf("%s never answered %u with %s\n", names[kind], number, places[i]);
                 }
+        for (int start = 0; start < STARTS && (kind == DO_STEP || kind == DO_RUN); start++)
+            for (int refused = 0; refused < 2; refused++)
+                if (started[kind][start][refused] < 20) {
+                    n++;
+                    if (say)
+                        printf("%s from %s seldom %s\n", names[kind], starts[start],
+                               refused ? "refused at a stage" : "took a step");
+                }
         for (unsigned i = 0; i < 2 && kind >= DO_PLACE; i++)
             if (of_gauges[kind][i] < 100) {
                 n++;
@@ -191,6 +248,12 @@ static long missing(bool say, unsigned kinds)
             n++;
             if (say)
                 printf("refusal %u seldom stood before a lower place in an older level\n", PATHPETAL_BAD_FLUX + i);
+        }
+    for (unsigned i = 0; i < 2; i++)
+        if (unweighed[i] < 20) {
+            n++;
+            if (say)
+                printf("refusal %u was seldom for a level of weight 0\n", PATHPETAL_BAD_FLUX + i);
         }
     for (int k = 1; k <= 10; k++)
         if (!settled[k]) {
@@ -231,19 +294,23 @@ static uint64_t by_second(struct record *c)
 }
 
 /* Whether a call with this answer is to be kept: a share for each. */
-static bool share_left(uint64_t answer)
+static bool share_left(const struct record *c, uint64_t answer)
 {
     unsigned number = pathpetal_number(answer), stage = pathpetal_stage(answer);
-    long share = number == 0 || number == PATHPETAL_MORE ? 2600 : r.kind == DO_READ ? 900 : stage == 0 ? 300 : 80;
-    if (is_of_gauges(&r, number) && of_gauges[r.kind][number == PATHPETAL_OFFSETS] < share)
+    long share = number == 0 || number == PATHPETAL_MORE ? 2600 : c->kind == DO_READ ? 900 : stage == 0 ? 300 : 80;
+    bool refused, stages = came_to_stages(c, answer, &refused);
+    if (is_of_gauges(c, number) && of_gauges[c->kind][number == PATHPETAL_OFFSETS] < share)
         return true;
-    if (r.scene <= FAULTS && shown[r.scene][r.kind] < 400)
+    if (c->scene <= FAULTS && shown[c->scene][c->kind] < 400)
         return true;
-    if (has_place(number) && placed[r.kind][number][where(&r, number, pathpetal_place(answer))] < 40)
+    if (has_place(number) && placed[c->kind][number][where(c, number, pathpetal_place(answer))] < 40)
         return true;
-    if (r.kind == DO_STEP && number == 0)
+    for (int start = 0; stages && start < STARTS; start++)
+        if (starts_from(c, start) && started[c->kind][start][refused] < 100)
+            return true;
+    if (c->kind == DO_STEP && number == 0)
         return settled[pathpetal_count(answer)] < 250;
-    return answered[r.kind][number][stage] < share;
+    return answered[c->kind][number][stage] < share;
 }
 
 /* The second program does the call at hand; the string that it may change is then what it left. */
@@ -254,7 +321,7 @@ static uint64_t offer(unsigned kind)
     before = r;
     uint64_t answer = by_second(&r);
     drawn++;
-    if (share_left(answer) && counted(&before, answer))
+    if (share_left(&before, answer) && counted(&before, answer))
         put_record(out, &before);
     return pathpetal_number(answer);
 }
@@ -388,7 +455,7 @@ static void go_on(const struct call *c)
     }
 }
 
-/* A make, and if it is accepted calls on its file. */
+/* A make, and if it is accepted calls on its file, in which as often as not other steps are said to be accepted. */
 static void from_make(const struct call *c, unsigned scene)
 {
     as_make(c);
@@ -398,6 +465,11 @@ static void from_make(const struct call *c, unsigned scene)
     struct string made = r.string[FILE_STRING];
     clear();
     r.string[FILE_STRING] = made;
+    uint64_t from = open_start(c->wanted);
+    if (scene == EDGE) /* it is out of range from that start */
+        from = c->accepted;
+    if (scene == EDGE || one_in(2))
+        put_value(r.string[FILE_STRING].at + 16, (int64_t)from, 4);
     go_on(c);
 }
 
@@ -413,7 +485,7 @@ static void thin(struct call *c)
 {
     scene(c);
     lengths(c, (size_t)between(40, 60));
-    c->X = (uint64_t)between(4000, 5000), c->T = (uint64_t)between(1, 100), c->wanted = 3, c->accepted = 0;
+    c->X = (uint64_t)between(4000, 5000), c->T = (uint64_t)between(1, 100), c->wanted = 5, c->accepted = open_start(5);
     memset(c->row, 0, sizeof c->row);
     for (size_t j = 0; j < c->N; j++)
         c->row[ROW_h][j] = 1 + (one_in(9) ? 1 : 0);
@@ -448,7 +520,7 @@ static void faulty(struct call *c)
     size_t N = (size_t)between(8, 12), j = (size_t)between(0, (int64_t)N - 1);
     lengths(c, N);
     memset(c->row, 0, sizeof c->row);
-    c->X = 500, c->T = (uint64_t)between(1, 20), c->wanted = 9, c->accepted = (uint64_t)between(0, 8);
+    c->X = 500, c->T = (uint64_t)between(1, 20), c->wanted = 9, c->accepted = open_start(9);
     bool steep = one_in(4); /* in one cell, far less deep than those beside it */
     for (size_t i = 0; i < N; i++)
         c->row[ROW_h][i] = steep ? 3000 : 1000, c->row[ROW_e][i] = between(-500, 500);
@@ -743,6 +815,11 @@ static int table(const char *calls, const char *answers)
     for (int k = 1; k <= 10; k++)
         printf(" %ld", settled[k]);
     printf("\n");
+    printf("steps and runs, by the accepted steps they start from: took a step, refused at a stage\n");
+    for (unsigned kind = DO_STEP; kind <= DO_RUN; kind += DO_RUN - DO_STEP)
+        for (int start = 0; start < STARTS; start++)
+            printf("%s from %s: %ld %ld\n", names[kind], starts[start], started[kind][start][0],
+                   started[kind][start][1]);
     printf("places of each refusal that has one, over all calls: the first, between, the last\n");
     for (unsigned number = 0; number < REASONS; number++) {
         long of[PLACES] = {0};
@@ -753,6 +830,7 @@ static int table(const char *calls, const char *answers)
             printf("%2u: %ld %ld %ld\n", number, of[AT_FIRST], of[BETWEEN], of[AT_LAST]);
     }
     printf("35 and 36 before a lower place in an older level: %ld %ld\n", older_lower[0], older_lower[1]);
+    printf("35 and 36 of a step or a run, for a level of weight 0: %ld %ld\n", unweighed[0], unweighed[1]);
     printf("12 and 14 of the gauges and not of the file:");
     for (unsigned kind = DO_PLACE; kind < DO_KINDS; kind++)
         printf(" %s %ld %ld", names[kind], of_gauges[kind][0], of_gauges[kind][1]);

@@ -4,7 +4,7 @@ import assert from 'node:assert/strict';
 import { readFileSync } from 'node:fs';
 import { createServer } from 'node:http';
 import { pathToFileURL } from 'node:url';
-import { fileLength, GAUGES_LENGTH, load, Pathpetal, reasons, Refusal, row } from '../../include/pathpetal.mjs';
+import { fileLength, GAUGES_LENGTH, load, Pathpetal, reasons, Refusal, row, RULE } from '../../include/pathpetal.mjs';
 
 const [wasm, header] = process.argv.slice(2);
 const bytes = readFileSync(wasm);
@@ -46,6 +46,10 @@ await test('the words are those of pathpetal.h', () => {
     assert.deepEqual({ ...reasons }, words);
     assert.deepEqual(Object.keys(reasons).map(Number), [0, 1, 2, 4, 5, 6, 7, 8, 9, 10, 11, 12, 13, 14, 15, 16, 20, 21, 30, 31, 32, 33, 34, 35, 36, 37]);
     assert.ok(Object.isFrozen(reasons));
+});
+
+await test('the rule is that of pathpetal.h', () => {
+    assert.deepEqual(readFileSync(header, 'utf8').match(/^#define PATHPETAL_RULE (\d+)$/m)?.slice(1), [`${RULE}`]);
 });
 
 await test('the parts of an answer come back, and a message names the cell or the face', () => {
@@ -136,6 +140,20 @@ await test('make, read, step, run and filter', () => {
     assert.throws(() => pathpetal.step(file, still(8, 0)), refused(11, 0));
     assert.throws(() => pathpetal.filter(file), refused(11, 0));
     assert.deepEqual(pathpetal.run(file), { complete: true, number: 0, stage: 0, place: 0, count: 0, words: '' });
+});
+
+await test('the first three steps, one by one and in a run', () => {
+    const slope = {
+        cells: 16, widthMm: 500, stepMs: 50, wanted: 3,
+        depths: still(16, 1000), heights: row(Array.from({ length: 16 }, (_, j) => 16000 - 1000 * j)), velocities: still(16, 0),
+    };
+    const file = pathpetal.make(slope), ran = pathpetal.make(slope);
+    for (const first of [15971, 15884, 15742]) {
+        assert.equal(pathpetal.step(file, still(16, 0)), 1);
+        assert.equal(pathpetal.read(file).heights[0], first);
+    }
+    assert.equal(pathpetal.run(ran).count, 3);
+    assert.deepEqual(ran, file);
 });
 
 await test('what is refused for a value names its cell or face', () => {

@@ -1,6 +1,8 @@
 """What the host's files hold, worked out from docs/HOST.md alone: channels, records, what stands beside a channel."""
 import hashlib, re, struct
 
+RULE = 2  # that steps are taken by; what says none is of rule 1
+
 
 def counts(data):
     """cells, accepted, wanted of a channel file's bytes"""
@@ -22,18 +24,23 @@ def survey(rows, names="depth_mm,height_um,velocity_um_s"):
     return names + "\n" + "".join(",".join(map(str, row)) + "\n" for row in rows)
 
 
-def run_lines(origin, filter_every, pour, mark=""):
-    """The lines on a run that began with the channel `origin` and pours the rows `pour`."""
+def run_lines(origin, filter_every, pour, rule=RULE, mark=""):
+    """The lines on a run that began with the channel `origin`, pours the rows `pour` and takes its steps by `rule`."""
     rows = "".join(f"{step},{cell},{amount}\n" for step, cell, amount in sorted(pour)).encode()
-    lines = (f"origin {sha(origin)} at step {counts(origin)[1]}", f"filter-every {filter_every or 'none'}",
-             f"pour {sha(rows) if rows else 'none'}")
+    lines = (f"origin {sha(origin)} at step {counts(origin)[1]}", *((f"rule {rule}",) if rule > 1 else ()),
+             f"filter-every {filter_every or 'none'}", f"pour {sha(rows) if rows else 'none'}")
     return "".join(f"{mark}{line}\n" for line in lines)
 
 
 def record_head(cells, run, every, first=0):
-    """The five lines that a record begins with; `run` is what run_lines takes."""
+    """The lines that a record begins with; `run` is what run_lines takes."""
     names = ",".join(["step", "time_s", *(f"cell_{cell}_um" for cell in cells)])
     return f"{names}\n{run_lines(*run, mark='# ')}# every {every} from step {first}\n".encode()
+
+
+def head_of(record):
+    """The lines that a record begins with, of a record."""
+    return re.match(rb"(.*\n)*?# every .*\n", record)[0]
 
 
 def record_rows(record):
@@ -47,6 +54,17 @@ def record_end(before, words):
     return line + sha(before + line).encode() + b"\n"
 
 
+def unruled(record):
+    """A record as a program left it that did not say its rule, with the sum of its lines if it has a last line."""
+    lines = record.splitlines(True)
+    lines.remove(f"# rule {RULE}\n".encode())
+    sum_at = lines[-1].find(b", sha256 ") + len(b", sha256 ")
+    if sum_at > len(b", sha256 "):
+        lines[-1] = lines[-1][:sum_at]
+        lines.append(sha(b"".join(lines)).encode() + b"\n")
+    return b"".join(lines)
+
+
 def whole_record(record, words):
     """Whether a record ends in the last line that it must have."""
     lines = record.splitlines(True)
@@ -55,16 +73,13 @@ def whole_record(record, words):
 
 def lines_of(record):
     """A record's head, its rows, and what follows them: what its gauges counted, and its last line."""
-    lines = record.decode().splitlines(True)
-    rows = [line for line in lines if line[0].isdigit()]
-    return "".join(lines[:5]), rows, "".join(lines[5 + len(rows):])
+    head, rows = head_of(record), record_rows(record)
+    return head.decode(), [row.decode() for row in rows], record[len(head) + len(b"".join(rows)):].decode()
 
 
 def up_to(record, step):
     """The bytes of a record up to the row of a step."""
-    lines = record.splitlines(True)
-    return b"".join(line for line in lines
-        if line in lines[:5] or line[:1].isdigit() and int(line.split(b",")[0]) <= step)
+    return head_of(record) + b"".join(row for row in record_rows(record) if int(row.split(b",")[0]) <= step)
 
 
 class Gauge:

@@ -1,18 +1,18 @@
-"""What the gauges at the staffs counted: against every height of a run, through cuts, and in what is old or changed."""
+"""What the gauges at the staffs counted: against every height of a run, through cuts, and in what is changed."""
 import os, random, re, shutil, signal
 import xml.etree.ElementTree as xml
 
 from common import (INTERRUPTED, OPEN, OPTIONS, POUR, REFUSED, STAFFS, TOP, check, counted, forget, go, group, grown,
     known, listing, parts_left, read, saved, start, tested, until, write)
 from formats import (Gauge, beside, count_lines, counts, every_height, gauge_lines, heights, lines_of, record_end,
-    record_rows, survey, up_to, wave_words, whole_record)
+    record_rows, survey, unruled, up_to, wave_words, whole_record)
 
 ALL = "complete: 300 of 300 steps accepted"
 BY = "  waves by the proved counts of {}; in brackets the time of the largest, noted by the host\n"
 NONE = "  no counts of waves: {}\n"
 EARLIER = NONE.format("an earlier program wrote this record")
 CUT = NONE.format("the run that writes them was cut, or still goes; give its command again")
-UNKNOWN = "nothing beside it says what {} had counted"
+UNTRUE = "the gauges beside it cannot be its own"
 NO_STAFFS = OPTIONS[:4]  # the same run without a record
 
 
@@ -24,8 +24,8 @@ def gauges(begin, end, record):
     beyond_the_rows()
     gone_on_with(begin, end, record)
     begun_late(end)
-    of_earlier_programs(begin, end, record)
     untrue_gauges(begin, end, record)
+    untrue_counts(end, record)
     changed_counts(record)
     in_words(record)
 
@@ -308,7 +308,7 @@ def begun_late(end):
     go("run", "q.check", *line, "--replace", says=stays)
     check(last_lines(read("l.csv")).startswith(counted(300, 156)), "from the step after START on")
     go("run", "q.check", *line, tells="it was there already")
-    # that of the same START is this run's own; and so is one without counts
+    # that of the same START is this run's own; one without counts is not
     late = read("l.csv")
     forget(*saved("l.end"))
     go("run", "q.check", *line)
@@ -316,8 +316,9 @@ def begun_late(end):
     rows = up_to(late, 300)
     write("l.csv", rows + record_end(rows, f"{ALL}, recorded from step 160"))
     forget(*saved("l.end"))
-    go("run", "q.check", *line)
-    check(read("l.csv") == late, "one of an earlier program gets its counts")
+    before = listing()
+    go("run", "q.check", *line, status=REFUSED, says=there)
+    check(listing() == before, "one without counts stays")
     # a channel that is complete already, and one whose first step is refused
     forget("l.csv", *saved("l.end"))
     go("run", "p.end", "-o", "l.end", *OPTIONS, "--record", "l.csv")
@@ -329,68 +330,6 @@ def begun_late(end):
     check(last_lines(read("l.csv.open")).startswith(count_lines((3, 4), ([], []))), "no step is accepted")
     check(BY.format("no step") in show("l.csv.open"), "of no step")
     forget("l.csv.open", *saved("l.end"), "dry.csv")
-
-
-def of_earlier_programs(begin, end, record):
-    """What an earlier program left has the same rows, and knows nothing of gauges."""
-    group("gauges beside what an earlier program left")
-    run = (begin, 7, POUR)
-    command = ("run", "start.channel", "-o", "e.end", *OPTIONS, "--record", "e.csv", "--checkpoint", "e.check",
-        "--checkpoint-every", 140)
-    go(*command)
-    rows, half = up_to(record, 300), read("e.check")
-    whole = rows + record_end(rows, ALL)
-    old = {"e.csv": whole, "e.end": end, "e.end.run": beside(run, (end, rows)), "e.check": half,
-           "e.check.run": beside(run, (half, up_to(record, 280)))}
-
-    def leave(*names, **more):
-        forget("e.csv", "e.csv.open", *saved("e.end", "e.check"))
-        for name, data in {**{name: old[name] for name in names}, **more}.items():
-            write(name.replace("_", "."), data)
-
-    # all of it is there: it stays complete, and tells no counts
-    leave(*old)
-    before = listing()
-    go(*command, tells=r"e.end: complete: all 300 steps accepted \(it was there already\)")
-    check(listing() == before, "what an earlier program has completed stays")
-    told = show("e.csv")
-    check("complete: all 300 steps accepted" in told and told.endswith(EARLIER) and "proved" not in told, told)
-    go("check", "--staff", "e.csv", "--complete", tells="complete: all 300 steps accepted")
-    # another name for the record gives its counts, and this then too
-    go(*(word if word != "e.csv" else "new.csv" for word in command),
-        says=f"e.end: is of this run, but new.csv.open has not the rows.*e.check: is of this run, but new.csv.open has")
-    check(read("new.csv") == record and read("e.csv") == whole and read("e.end") == end, "another name for the record")
-    check(read("e.end.run").decode() == beside(run, known(end, rows)), "END knows its gauges then")
-    go(*command, says="e.end: is of this run, cut before")
-    check(read("e.csv") == record, "and the record of an earlier program gets its counts")
-    go(*command, tells="it was there already")
-    forget("new.csv")
-    # cut: the same command begins further back, and ends as in one go
-    for name, names, more in (("END", ("e.end", "e.end.run"), {"e_csv_open": rows}),
-                              ("a checkpoint", ("e.check", "e.check.run"), {"e_csv_open": up_to(record, 280)}),
-                              ("a checkpoint, and rows beyond it", ("e.check", "e.check.run"), {"e_csv_open": rows}),
-                              ("both", ("e.end", "e.end.run", "e.check", "e.check.run"), {"e_csv_open": whole}),
-                              ("all but the record", ("e.end", "e.end.run", "e.check", "e.check.run"), {})):
-        leave(*names, **more)
-        _, err = go(*command, name=f"of an earlier program: {name}")
-        if more:
-            check(f"is of this run, but {UNKNOWN.format('its gauges')}: it is not gone on with, and stays" in err, err)
-        check(read("e.csv") == record and read("e.end") == end, f"of an earlier program: {name}: other bytes")
-        check(read("e.end.run").decode() == beside(run, known(end, rows)), f"{name}: beside END")
-        check(whole_record(read("e.csv"), ALL), "whole")
-        forget("e.csv.open")
-    # START of an earlier program: its record is not gone on with, a new one begins there
-    for names, more in (((), {"e_csv_open": up_to(record, 280)}), ((), {"e_csv_open": rows}), (("e.csv",), {})):
-        for replace in ((), ("--replace",)):
-            leave("e.check", "e.check.run", *names, **more)
-            before = listing()
-            go("run", "e.check", "-o", "e.other", *OPTIONS, "--record", "e.csv", *replace, status=REFUSED,
-                says=f"e.check: {UNKNOWN.format('the gauges of its record')}: an earlier program saved it\npathpetal: "
-                     "give the command that this run began with, or record under another name")
-            check(listing() == before, "nothing is written or changed")
-    go("run", "e.check", "-o", "e.other", *OPTIONS, "--record", "other.csv", says="the record begins at step 280")
-    check(last_lines(read("other.csv")).startswith(counted(300, 280)), "a new one counts from there on, and says so")
-    forget("e.csv", "e.csv.open", "other.csv", *saved("e.end", "e.check", "e.other"))
 
 
 def untrue_gauges(begin, end, record):
@@ -435,17 +374,16 @@ def untrue_gauges(begin, end, record):
         "no height of a crossing": with_number(0, highest, -1), "a crossing below zero": with_number(0, crossed, 280),
         "no crossing, but a highest": with_numbers(1, {crossings: 0, crossed: 0}),
         "one lacks": "".join(true.splitlines(True)[:2]),
-        "one too many": true + true.splitlines(True)[0], "another order": "".join(reversed(true.splitlines(True))),
-        "none": ""}
-    check([line[place] for line, place in zip(lines, (crossings, crossings, last))] == ["3", "1", "1748"] and
+        "one too many": true + true.splitlines(True)[0], "another order": "".join(reversed(true.splitlines(True)))}
+    check([line[place] for line, place in zip(lines, (crossings, crossings, last))] == ["3", "1", "1749"] and
         int(lines[0][last]) < 0, f"the gauges that these cases are made of: {true}")
     for name, text in cases.items():
         forget(*files)
         write("u.check", half)
         write("u.check.run", beside(run, (half, behind, text)))
         write("u.csv.open", behind)
-        go(*command, name=name, says=f"u.check: is of this run, but ({UNKNOWN.format('its gauges')}|its waves are "
-            "counted from step [02] on): it is not gone on with, and stays")
+        go(*command, name=name, says=f"u.check: is of this run, but ({UNTRUE}|its waves are counted from step [02] on)"
+            ": it is not gone on with, and stays")
         check(read("u.csv") == record and read("u.end") == end, f"{name}: other bytes")
         go(*command, name=name, tells="it was there already")
         # the same beside START
@@ -455,7 +393,8 @@ def untrue_gauges(begin, end, record):
         write("u.csv.open", behind)
         before = listing()
         go("run", "u.check", "-o", "u.end", *OPTIONS, "--record", "u.csv", status=REFUSED, name=name,
-            says=f"u.check: {UNKNOWN.format('the gauges of its record')}")
+            says=f"u.check: {UNTRUE}\npathpetal: give the command that this run began with, or record under another "
+                 "name")
         check(listing() == before, f"{name}: something was written or changed")
     # made up on purpose: whatever is taken, the record in the end is whole
     draw = random.Random(tested.seed + 8)
@@ -495,6 +434,25 @@ def untrue_gauges(begin, end, record):
     forget(*files)
 
 
+def untrue_counts(end, record):
+    """A record that is whole, has the rows that END was saved with and counts that its gauges can have, but not theirs:
+    it is not there already."""
+    group("a complete record with other counts than END was saved with")
+    command = ("run", "start.channel", "-o", "u.end", *OPTIONS, "--record", "u.csv")
+    go(*command)
+    rows, true = up_to(record, 300), counted(300)
+    largest = int(re.search(rb"largest (\d+)", true)[1])
+    for other in (true.replace(b"largest %d" % largest, b"largest %d" % (largest - 1), 1),
+                  re.sub(rb"sum (\d+)", lambda found: b"sum %d" % (int(found[1]) - 1), true, count=1),
+                  re.sub(rb"to step (\d+)", lambda found: b"to step %d" % (int(found[1]) - 1), true, count=1)):
+        write("u.csv", rows + other + record_end(rows + other, ALL))
+        go("check", "--staff", "u.csv", "--complete", tells="complete: all 300 steps accepted")
+        out, _ = go(*command, says="u.end: is of this run, cut before: goes on after step 300")
+        check("already" not in out and read("u.csv") == record and read("u.end") == end, "written anew")
+    go(*command, tells="it was there already")
+    forget("u.csv", *saved("u.end"))
+
+
 def changed_counts(record):
     group("a record whose counts were changed")
     head, rows, last = lines_of(record)
@@ -509,7 +467,7 @@ def changed_counts(record):
         "spaces": whole + last.replace(", largest", ",  largest")})
     # by somebody who works the sum out anew
     cases.update({name: ended(whole + text) for name, text in {
-        "one lacks": one + two, "one twice": one + one + two + three, "another order": two + one + three,
+        "none": "", "one lacks": one + two, "one twice": one + one + two + three, "another order": two + one + three,
         "other cells": (one + two + three).replace("cell 30", "cell 29"),
         "fewer heights": (one + two + three).replace("300 heights", "299 heights"),
         "heights of one fewer": one.replace("300 heights from step 1", "299 heights from step 2") + two + three,
@@ -545,13 +503,12 @@ def changed_counts(record):
 
 
 def in_words(record):
-    """Records of earlier programs tell no counts, and their pictures none; those of this one do."""
+    """Records of the earliest programs tell no counts, and their pictures none; those of this one do."""
     group("gauges in words and in the picture")
-    rows = up_to(record, 300)
+    rows, some = unruled(up_to(record, 300)), unruled(up_to(record, 145))
     for name, text, words in (
             ("complete", rows + record_end(rows, ALL), "complete: all 300 steps accepted"),
-            ("open", up_to(record, 145) + record_end(up_to(record, 145), "open: 148 of 300 steps accepted"),
-                "open: 148 of 300 steps accepted"),
+            ("open", some + record_end(some, "open: 148 of 300 steps accepted"), "open: 148 of 300 steps accepted"),
             ("without a sum", record.splitlines(True)[0] + b"".join(record_rows(record)) +
                 b"# complete: 300 of 300 steps accepted\n", "cannot tell whether whole")):
         write("o.csv", text)

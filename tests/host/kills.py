@@ -3,7 +3,7 @@ import os, random, re, signal, subprocess, time
 
 from common import (DONE, INTERRUPTED, check, end_is_true, forget, go, group, listing, parts_left, read, saved, start,
     taken, tested, write)
-from formats import Gauge, count_lines, counts, every_height, lines_of, sha, survey, up_to, whole_record
+from formats import Gauge, count_lines, counts, every_height, head_of, lines_of, sha, survey, up_to, whole_record
 
 
 def long_channel():
@@ -149,7 +149,7 @@ def power_cut(draw, head):
 def kills(options, begin, end, record, wanted, every, where):
     group(f"kills at random moments, then the same command again, {where}")
     draw = random.Random(tested.seed + 2)
-    head = b"".join(record.splitlines(True)[:5])
+    head = head_of(record)
     command = ("run", "long.channel", "-o", "k.channel", *options, "--record", "k.csv", "--checkpoint", "k.check",
         "--checkpoint-every", every)
     left = ("k.csv", "k.csv.open", *saved("k.channel", "k.check"))

@@ -3,7 +3,7 @@ import os, re, shutil
 
 from common import (COUNTS, OPEN, OPTIONS, POUR, REFUSED, ROWS, check, forget, go, group, known, listing, read, saved,
     write)
-from formats import beside, counts, record_end, record_head, record_rows, summed, survey, up_to
+from formats import beside, counts, head_of, record_end, record_head, record_rows, summed, survey, up_to
 
 
 def kept_apart():
@@ -24,8 +24,8 @@ def mixed_records(begin):
     check(record_rows(a)[0] == record_rows(b)[0] and record_rows(a)[1:] != record_rows(b)[1:], "alike at step 0 alone")
     check(counts(read("b155"))[1] == 155, "a count that is no multiple of --every")
     left = {"all rows of the other run": a, "its rows so far": up_to(a, 155),
-            "its rows under this run's head": b"".join(b.splitlines(True)[:5]) + b"".join(record_rows(a)),
-            "half of them": b"".join(b.splitlines(True)[:5]) + b"".join(record_rows(b)[:8] + record_rows(a)[8:]),
+            "its rows under this run's head": head_of(b) + b"".join(record_rows(a)),
+            "half of them": head_of(b) + b"".join(record_rows(b)[:8] + record_rows(a)[8:]),
             "the first row its own, and no head": a.splitlines(True)[0] + b"".join(record_rows(a)),
             "one row of the other": up_to(b, 155).replace(record_rows(b)[9], record_rows(a)[9])}
     for name, data in left.items():

@@ -32,7 +32,7 @@ def runs(begin, end, record):
     check(lines_of(record)[2].startswith(counted(300).decode()), "what its gauges counted")
     check(read("one.channel.run").decode() == beside((begin, 7, POUR), known(end, up_to(record, 300))),
         "what stands beside END")
-    rows = [line.split(",") for line in lines[5:-1 - len(STAFFS)]]
+    rows = [line.split(",") for line in lines[6:-1 - len(STAFFS)]]
     check([row[0] for row in rows] == [str(k) for k in range(0, 301, 5)], "the record's steps")
     check([row[1] for row in rows] == [f"{k * 40 / 1000:.3f}" for k in range(0, 301, 5)], "the record's times")
     for row, data in ((rows[0], begin), (rows[-1], end)):
@@ -257,18 +257,18 @@ def refused_steps():
     check(read("dry.end3") == read("dry.end4") and counts(read("dry.end4")) == (20, 16, 40),
         "a filter pass before a refused step is not kept")
     check(read("dry.channel") == begin, "START has its bytes")
-    rough = [-70714, 5420, 91710, 16909, 8585, 60086, -4313, -37714, 69403, -58253, 78957, 77871, 14137, 8109, -77525,
-        -57075, 56767, 48460, 28246, -63910]
+    rough = [-19403, 82634, -45743, 27746, -5213, -44147, 75776, -56945, -69366, -32386, -50844, -85741, 70469, -66192,
+        -34477, -75723, -29617, 31426, -21128, -81135]
     write("rough.csv", survey([(1000, height) for height in rough], "depth_mm,height_um"))
     go("make", "rough.csv", "-o", "rough.channel", "--width-mm", 200, "--step-ms", 100, "--steps", 2000)
     go("run", "rough.channel", "-o", "rough.end", "--staff", 4, "--record", "rough.csv.record", status=OPEN,
-       says=rf"step 587 of 2,000 was refused in its correction 2 \(number 4, stage 2\){dry(20, 200)}pathpetal: to "
+       says=rf"step 614 of 2,000 was refused in its correction 2 \(number 4, stage 2\){dry(20, 200)}pathpetal: to "
        r"mend: take a shorter time step: at most 22 ms for cells of 200 mm and a depth of 1,000 mm \(the Courant number is "
-       rf"1.57, and 0.35 is advised\){or_deeper(20)}\npathpetal: rough.end: open: 586 of 2,000 steps accepted")
+       rf"1.57, and 0.35 is advised\){or_deeper(20)}\npathpetal: rough.end: open: 613 of 2,000 steps accepted")
     end_is_true("rough.end", "refused step", False)
-    check(counts(read("rough.end")) == (20, 586, 2000), "586 steps are kept")
-    check(whole_record(read("rough.csv.record.open"), "open: 586 of 2000 steps accepted")
+    check(counts(read("rough.end")) == (20, 613, 2000), "613 steps are kept")
+    check(whole_record(read("rough.csv.record.open"), "open: 613 of 2000 steps accepted")
         and not os.path.exists("rough.csv.record"), "the record says open")
     check(sum(heights(read("rough.end"))) == sum(rough), "the water sum is the start's")
-    go("check", "rough.end", "--complete", status=OPEN, tells="open: 586 of 2,000")
-    go("check", "rough.end", tells="open: 586 of 2,000")
+    go("check", "rough.end", "--complete", status=OPEN, tells="open: 613 of 2,000")
+    go("check", "rough.end", tells="open: 613 of 2,000")

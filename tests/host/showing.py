@@ -2,8 +2,8 @@
 import fcntl, os, pty, random, re, shutil, struct, subprocess, termios
 import xml.etree.ElementTree as xml
 
-from common import (COUNTS, DONE, ENVIRONMENT, OPEN, REFUSED, ROWS, TOP, UNWRITTEN, USAGE, check, forget, go, group,
-    read, start, tested, write)
+from common import (COUNTS, DONE, ENVIRONMENT, OPEN, REFUSED, ROWS, TOP, UNWRITTEN, USAGE, check, counted, forget, go,
+    group, read, start, tested, write)
 from formats import heights, lines_of, record_end, sha, survey
 
 
@@ -31,8 +31,14 @@ def showing(begin, end, record):
     changed = "not whole: cut or changed after it was written; its last row is of step {}"
     cannot_tell = "cannot tell whether whole: an earlier program wrote it, without a check sum; its last row is of " \
         "step {}"
-    ended = lambda text, words: text + record_end(text.encode(), words).decode()
     whole = head + "".join(rows)
+
+    def ended(text, words, step=300):
+        """Rows, what the gauges counted up to a step, and the last line."""
+        text = text.encode() + counted(step)
+        return (text + record_end(text, words)).decode()
+
+    check(ended(whole, "complete: 300 of 300 steps accepted") == record.decode(), "as a run ends a record")
     for name, text, standing in (
             ("no last line", whole, "open: cut after step 300"),
             ("rows lost at the end", head + "".join(rows[:-2]) + last, changed.format(290)),
@@ -61,11 +67,11 @@ def showing(begin, end, record):
             ("a remark after it", whole + last + "# seen by me\n", changed.format(300)),
             ("a false sum of a cut one", ended(head + "".join(rows[:30]), "complete: 300 of 300 steps accepted"),
                 changed.format(145)),
-            ("a false count of rows", whole + (line := "# complete: 300 of 300 steps accepted, 60 rows, sha256 ") +
-                sha((whole + line).encode()) + "\n", changed.format(300)),
+            ("a false count of rows", (line := whole + counted(300).decode() + "# complete: 300 of 300 steps accepted, "
+                "60 rows, sha256 ") + sha(line.encode()) + "\n", changed.format(300)),
             ("an end of Windows in its last line alone", whole + last[:-1] + "\r\n", changed.format(300)),
             ("blanks before its last line", whole + "  " + last, changed.format(300)),
-            ("a second last line", ended(ended(whole, "open: 148 of 300 steps accepted"),
+            ("a second last line", ended(whole + record_end(whole.encode(), "open: 148 of 300 steps accepted").decode(),
                 "complete: 300 of 300 steps accepted"), changed.format(300)),
             ("a second head", ended(head + "".join(head.splitlines(True)[1:]) + "".join(rows),
                 "complete: 300 of 300 steps accepted"), changed.format(300)),
@@ -80,9 +86,10 @@ def showing(begin, end, record):
             ("too many steps", ended(whole, "complete: 1999999 of 1999999 steps accepted"), changed.format(300)),
             ("a filter pass too far", ended(whole.replace("every 7\n", "every 1000001\n"),
                 "complete: 300 of 300 steps accepted"), changed.format(300)),
-            ("a false count", ended(head + "".join(rows[:30]), "complete: 148 of 300 steps accepted"),
+            ("a false count", ended(head + "".join(rows[:30]), "complete: 148 of 300 steps accepted", 148),
                 changed.format(145)),
-            ("open", ended(head + "".join(rows[:30]), "open: 148 of 300 steps accepted"), "open: 148 of 300 steps"),
+            ("open", ended(head + "".join(rows[:30]), "open: 148 of 300 steps accepted", 148),
+                "open: 148 of 300 steps"),
             ("a last line of another", head + "".join(rows[:30]) + last, changed.format(145)),
             ("half a last line", (whole + last)[:-8], "open: cut after step 300"),
             ("a row after it", whole + last + "305,12.200,1,1,1\n", "open: cut after step 305"),
@@ -94,7 +101,7 @@ def showing(begin, end, record):
                 "# open: 148 of 300 steps accepted\n", cannot_tell.format(145))):
         write("cut.csv", text)
         out, _ = go("show", "--staff", "cut.csv", "--svg", "r.svg", "--replace", tells=re.escape(standing), name=name)
-        check("complete" not in out and standing in words("r.svg"), f"a record with {name} says complete: {out}")
+        check("complete:" not in out and standing in words("r.svg"), f"a record with {name} says complete: {out}")
         for more in ((), ("--complete",)):
             status = REFUSED if standing[:4] != "open" else OPEN if more else DONE
             out, err = go("check", "--staff", "cut.csv", *more, status=status, name=f"check --staff {more}: {name}")
@@ -105,7 +112,7 @@ def showing(begin, end, record):
     for name, text, says in (("a cut row", head + "".join(rows[:39]) + "195,7.8", "last line is cut"),
                              ("no rows", head, "has no rows"), ("no rows but a last line", head + last, "it was cut"),
                              ("a word", head + "".join(rows[:2]) + "10,0.400,a,1,1\n",
-                                 r"line 8, column 3 \(cell_3_um\): 'a'"),
+                                 r"line 9, column 3 \(cell_3_um\): 'a'"),
                              ("a lost row", head + "".join(rows[:4] + rows[5:]), "is not the step that must follow"),
                              ("a bad time", head + "".join(rows[:2]) + "10,0.4,1,1,1\n", "'0.4' is not a time"),
                              ("another table", survey(ROWS), "is no staff record"),

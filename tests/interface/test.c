@@ -161,6 +161,28 @@ static const char *const event_names[EVENTS] = {
     "run refused at a stage of its first step",  "run refused at a stage of a later step",
     "make refused 1 for the number of cells",    "make refused 1 for a row alone"};
 
+/* The count of accepted steps that a step or a run starts from; the last before the wanted is one of the others too.
+   How often it then took a step, and how often it was refused at a stage. */
+enum { FROM_LATER = 4, FROM_LAST, STARTS, RUNGS = 3 };
+static const char *const starts[STARTS] = {"0", "1", "2", "3", "later", "wanted - 1"};
+static long started[KINDS][STARTS][2];
+
+/* How often a step was refused at each stage, by its row of the ladder of weights: the first step's, the second's and
+   that of all others. */
+static long refused_by[RUNGS][NUMBERS][TURNS];
+
+/* How often a flux (0) or an acceleration (1) was refused in a level whose weight is 0, by the row of weights. */
+static long unweighed[2][RUNGS];
+
+static size_t rung_of(uint32_t accepted) { return accepted < RUNGS - 1 ? accepted : RUNGS - 1; }
+
+static void count_start(enum kind kind, uint32_t accepted, uint32_t wanted, bool refused)
+{
+    started[kind][accepted < FROM_LATER ? accepted : FROM_LATER][refused]++;
+    if (accepted + 1 == wanted)
+        started[kind][FROM_LAST][refused]++;
+}
+
 /* How many cells the call's channel has, or faces where those are looked at. */
 static unsigned last_place(enum kind kind, const struct call *c, unsigned number)
 {
@@ -192,6 +214,12 @@ static void count(enum kind kind, const struct call *c, uint64_t answer)
         events[steps ? MORE_LATER : MORE_AT_ONCE]++;
     if (kind == RUN && at_stage)
         events[steps ? REFUSED_LATER : REFUSED_FIRST]++;
+    if ((kind == STEP || kind == RUN) && (at_stage || steps > 0)) {
+        uint32_t accepted = pathpetal_accepted(c->string[BYTES].at);
+        count_start(kind, accepted, pathpetal_wanted(c->string[BYTES].at), at_stage);
+        if (kind == STEP)
+            refused_by[rung_of(accepted)][number][at_stage ? 1 + stage : 0]++;
+    }
 }
 
 static void expect(bool holds, const char *what)
@@ -275,6 +303,19 @@ static void set_word(struct call *c, int i, uint64_t n) { put(c->string[BYTES].a
 
 enum { EDITION, CELLS, WIDTH, STEP_MS, ACCEPTED, WANTED, OFFSETS };
 
+/* So many steps are said to be accepted, and not all that are wanted: none, one, two, three, all but one, or a count
+   whose lowest bytes are 0 or 1, of which some more are then wanted. */
+static void set_start(struct call *c)
+{
+    uint32_t wanted = word(c, WANTED);
+    int64_t many = PICK(256, 257, 65536, 65537), from = PICK(0, 1, 2, 3, (int64_t)wanted - 1, many);
+    if (from == many)
+        set_word(c, WANTED, (uint64_t)(from + between(1, 9)));
+    else if (from >= (int64_t)wanted)
+        from = (int64_t)wanted - 1;
+    set_word(c, ACCEPTED, (uint64_t)from);
+}
+
 /* The six rows of a file of n cells: where they start, the bytes of an entry, how many there are, and their range. */
 enum { ROW_h, ROW_e, ROW_u, ROW_V, ROW_Q, ROW_F, ROWS };
 static const int64_t row_least[ROWS] = {1, -20000000, -20000000, -2000000000, -1000000000000000, -100000000000};
@@ -348,7 +389,7 @@ static void any_levels(struct call *c, size_t n)
     }
 }
 
-/* A file of 8 cells whose first prediction leaves V as it is, with every u a half in exact arithmetic: the depth is 4
+/* A file of 8 cells whose next prediction leaves V as it is, with every u a half in exact arithmetic: the depth is 4
    widths, and each second difference of u, mirrored at the walls, an odd number of 62,500. */
 static void velocity_halves(struct call *c)
 {
@@ -358,6 +399,7 @@ static void velocity_halves(struct call *c)
     calm(&s, 8);
     set_scene(c, &s);
     compare(MAKE, c);
+    set_start(c);
     set_word(c, WIDTH, 4000);
     set_word(c, STEP_MS, 1);
     for (int j = 0; j < 8; j++, sign = -sign)
@@ -680,15 +722,17 @@ static void refused_there(struct call *c, unsigned number, size_t place)
 }
 
 /* One fault at each place of each row and level. Others change nothing: behind it in its level, and at lower places in
-   older levels and in later rows. */
+   older levels and in later rows. A level whose weight is 0 in the next step is looked at as well. */
 static void places(const struct call *from)
 {
     static struct call c;
-    size_t n = word(from, CELLS);
+    size_t n = word(from, CELLS), rung = rung_of(word(from, ACCEPTED));
     for (int row = 0; row < ROWS; row++)
         for (size_t level = 0; level < row_levels(row); level++)
             for (size_t len = level_len(row, n), j = 0; j < len; j = next_place(j, len)) {
                 size_t at = level * len + j;
+                if (level > rung)
+                    unweighed[row - ROW_Q][rung]++;
                 set_file(&c, from);
                 set_wrong(&c, n, row, at);
                 refused_there(&c, row_number(row), j + 1);
@@ -775,6 +819,7 @@ static void many_damaged_files(void)
     static const size_t sizes[] = {8, 9, 8, 12, 23, 256};
     for (size_t i = 0; i < sizeof sizes / sizeof *sizes; i++) {
         a_channel(&base, sizes[i]);
+        set_word(&base, ACCEPTED, i % RUNGS);
         head_words(&base);
         lengths(&base);
         values(&base);
@@ -908,6 +953,8 @@ static void channels(void)
             continue;
         if (one_in(4))
             any_levels(&c, n);
+        if (one_in(2))
+            set_start(&c);
         go_on(&c);
     }
     for (int i = 0; i < 200; i++) {
@@ -923,7 +970,6 @@ static void rare_channels(void)
     static struct scene s;
     for (size_t i = 0; i < sizeof rares / sizeof *rares; i++) {
         const struct rare *r = &rares[i];
-        uint64_t answer = 0;
         seed(r->from);
         size_t n = (size_t)between(8, 12);
         r->scene(&s, n);
@@ -931,9 +977,9 @@ static void rare_channels(void)
             s.velocities[j] = (int32_t)(s.velocities[j] * r->millionths / 1000000);
         set_scene(&c, &s);
         compare(MAKE, &c);
+        set_word(&c, ACCEPTED, r->start);
         c.most = 40;
-        for (int k = 0; k < 3 && pathpetal_number(answer) == 0; k++)
-            answer = compare(kinds[r->call], &c);
+        uint64_t answer = compare(kinds[r->call], &c);
         expect(pathpetal_number(answer) == r->number && pathpetal_stage(answer) == r->stage,
                "a rare refusal is met where it was found");
     }
@@ -997,6 +1043,27 @@ static void known_places(void)
     expect(is_at(compare(STEP, &c), 4, 0, 3, 0), "cell 3 falls dry in a step");
     c.most = 10;
     expect(is_at(compare(RUN, &c), 4, 0, 3, 0), "cell 3 falls dry in a run");
+}
+
+/* Water that slopes from wall to wall, at rest: its first steps, and a run of as many, from the same file. */
+static void known_first_steps(void)
+{
+    static const int32_t first[3] = {15971, 15884, 15742};
+    static struct scene s;
+    static struct call c, ran;
+    s.cells = 16, s.width = 500, s.step = 50, s.wanted = 10;
+    for (size_t j = 0; j < 16; j++)
+        s.depths[j] = 1000, s.heights[j] = 16000 - 1000 * (int32_t)j, s.velocities[j] = 0, s.poured[j] = 0;
+    set_scene(&c, &s);
+    expect(is(compare(MAKE, &c), 0, 0, 0), "a slope of 16 cells is made");
+    set_file(&ran, &c);
+    for (int i = 0; i < 3; i++) {
+        expect(is(compare(STEP, &c), 0, 0, 1), "a first step settles at the first correction");
+        expect(pathpetal_height_um(c.string[BYTES].at, 0) == first[i], "cell 1 after it");
+    }
+    ran.most = 3;
+    expect(is(compare(RUN, &ran), PATHPETAL_MORE, 0, 3), "a run of three steps");
+    expect(!memcmp(ran.string[BYTES].at, c.string[BYTES].at, c.string[BYTES].len), "it leaves the same file");
 }
 
 static void known(void)
@@ -1187,6 +1254,40 @@ static void places_table(void)
         }
 }
 
+/* Steps and runs by the count that they start from, and the refusals of steps at every stage by the row of weights. */
+static void starts_table(void)
+{
+    char what[80];
+    puts("steps and runs, by the accepted steps they start from: took a step, refused at a stage");
+    for (enum kind kind = STEP; kind <= RUN; kind += RUN - STEP)
+        for (int start = 0; start < STARTS; start++) {
+            printf("%-6s from %-10s %7ld %7ld\n", names[kind], starts[start], started[kind][start][0],
+                   started[kind][start][1]);
+            for (int refused = 0; refused < 2; refused++) {
+                snprintf(what, sizeof what, "a %s from %s %s", names[kind], starts[start],
+                         refused ? "was refused at a stage" : "took a step");
+                expect(started[kind][start][refused] > 0, what);
+            }
+        }
+    puts("step refused at stage 0, 1 .. 10, by its row of weights");
+    for (int number = 4; number <= 10; number++)
+        for (int rung = 0; rung < RUNGS && due(STEP, number, 1 + 10 * (number == 10)); rung++) {
+            printf("%2d by row %d", number, rung + 1);
+            for (int turn = 1; turn < TURNS; turn++) {
+                printf(" %ld", refused_by[rung][number][turn]);
+                snprintf(what, sizeof what, "a step by row %d was refused %d at stage %d", rung + 1, number, turn - 1);
+                if (due(STEP, number, turn))
+                    expect(refused_by[rung][number][turn] > 0, what);
+            }
+            puts("");
+        }
+    for (int row = 0; row < 2; row++) {
+        printf("refused %d in a level of weight 0: from 0 %ld, from 1 %ld\n", PATHPETAL_BAD_FLUX + row,
+               unweighed[row][0], unweighed[row][1]);
+        expect(unweighed[row][0] > 0 && unweighed[row][1] > 0, "levels of weight 0 were out of range");
+    }
+}
+
 static void table(void)
 {
     char what[80];
@@ -1219,6 +1320,7 @@ static void table(void)
     }
     puts("");
     places_table();
+    starts_table();
     for (int i = 0; i < EVENTS; i++) {
         printf("%s: %ld\n", event_names[i], events[i]);
         expect(events[i] > 0, event_names[i]);
@@ -1239,6 +1341,7 @@ int main(void)
     readers();
     known();
     known_places();
+    known_first_steps();
     nothing_lent();
     long_strings();
     many_damaged_files();
