@@ -24,7 +24,7 @@
    signed), flux in um2/s (3 levels of n - 1 faces) and acceleration in um/s2 (3 levels of n cells; 8 bytes each,
    signed). It is complete exactly when as many steps are accepted as are wanted: pathpetal_complete asks that.
    The count of steps accepted also chooses the next step's time weights, which a first and a second step have of their
-   own: change neither by hand.
+   own.
 
    THE GAUGES are 512 bytes, all zeros while there is none: eight places of 64 bytes, each empty (all zeros) or one
    gauge, in eight numbers of 8 bytes, little-endian and signed:
