@@ -54,15 +54,16 @@ def alike(drive, report):
         for height in heights:
             start = whole(height * v for v in mode(N, m))
             for T in times:
-                walk = Channel(drive, 100, T, 20, start).walk(STEPS)
+                walk = Channel(drive, 100, T, 20, start).walk(STEPS, 10)
                 if walk.number:
-                    refused.append((T, walk.number))
+                    refused.append((T, walk.number, max((size(row) / size(start) for row in walk.rows), default=1)))
         said = f"{len(refused):,} of {len(heights) * len(times):,} runs"
         if refused:
             low, high = min(refused)[0], max(refused)[0]
-            said += f", T {low} to {high}, Courant number {courant(20, 100, low):.2f} to {courant(20, 100, high):.2f}"
+            said += (f", T {low} to {high}, Courant number {courant(20, 100, low):.2f} to {courant(20, 100, high):.2f}, grown to "
+                     f"{max(grown for _, _, grown in refused):.3f} at most")
         report.exact(f"  waves of {2 * N / m:.3g} cells, N {N}",
-                     all(number == 10 for _, number in refused) and (N == 16 or not refused), said)
+                     all(number == 10 and grown <= GROWN for _, number, grown in refused) and bool(refused) == (N == 16), said)
 
 
 def growth(drive, report, out):

@@ -45,7 +45,7 @@ def on_grid(k, h, x):
     return math.sqrt(G * slope * flux / (1 - ALPHA * h ** 2 * bend))
 
 
-# Time weights of a channel's first step, of its second and of every later one, (3.56) and (3.69): the prediction's in parts of
+# Time weights of a channel's first step, of its second and, by (3.56) and (3.69), of every later one: the prediction's in parts of
 # 12, the corrections' in parts of 24, the trial's first.
 LADDER = (((12, 0, 0), (12, 12, 0, 0)), ((18, -6, 0), (10, 16, -2, 0)), ((23, -16, 5), (9, 19, -5, 1)))
 LATER = len(LADDER) - 1
