@@ -61,12 +61,37 @@ static void put_beside(struct text *text, const struct beside *beside)
     text_add(text, "sum %s\n", sum_of(text->at, text->length).text);
 }
 
+uint32_t own_rule(void)
+{
+    return (uint32_t)pathpetal_rule();
+}
+
+static const char *whose(uint32_t rule)
+{
+    return rule < own_rule() ? "an earlier" : "a later";
+}
+
 struct standing rule_words(uint32_t rule)
 {
     struct standing out;
-    snprintf(out.text, sizeof out.text, "%s program's rule (%" PRIu32 ")",
-             rule < PATHPETAL_RULE ? "an earlier" : "a later", rule);
+    snprintf(out.text, sizeof out.text, "%s program's rule (%" PRIu32 ")", whose(rule), rule);
     return out;
+}
+
+struct standing other_rule(uint32_t rule)
+{
+    struct standing out = {.text = ""};
+    if (rule != 0 && rule != own_rule())
+        snprintf(out.text, sizeof out.text, "its steps were taken by %s program's rule (%" PRIu32 "); this program's is %"
+                 PRIu32, whose(rule), rule, own_rule());
+    return out;
+}
+
+void tell_rule(uint32_t rule)
+{
+    struct standing words = other_rule(rule);
+    if (words.text[0])
+        tell("  %s", words.text);
 }
 
 /* How a filter or a pour reads in a sentence. */
@@ -265,6 +290,24 @@ const struct saved *beside_find(const struct beside *beside, const struct hex *c
         if (same_hex(&beside->saved[k].channel, channel))
             return &beside->saved[k];
     return NULL;
+}
+
+const struct saved *beside_stepped(const struct beside *beside, const struct hex *channel, uint32_t accepted)
+{
+    const struct saved *found = beside_find(beside, channel);
+    return found && found->step == accepted && accepted > beside->run.origin_step ? found : NULL;
+}
+
+uint32_t rule_of(const char *path, const struct channel *channel)
+{
+    struct hex sum = sum_of(channel->bytes, channel->length);
+    struct beside beside;
+    uint32_t rule = 0;
+    if (beside_read(path, &beside) == STATUS_DONE &&
+        beside_stepped(&beside, &sum, pathpetal_accepted(channel->bytes)))
+        rule = beside.run.rule;
+    beside_free(&beside);
+    return rule;
 }
 
 enum status beside_write(struct beside *beside, const struct run_id *run, const struct saved *stands,

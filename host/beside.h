@@ -18,7 +18,7 @@ enum { RULE_UNSAID = 1 }; /* the rule of what says none: programs that had no ot
 struct run_id {
     struct hex origin;     /* of the channel that it began with, */
     uint32_t origin_step;  /* and its count */
-    uint32_t rule;         /* that its steps and filter passes follow, as PATHPETAL_RULE is */
+    uint32_t rule;         /* that its steps and filter passes follow, as pathpetal_rule tells it */
     uint32_t filter_every; /* 0 for never */
     struct hex pour;       /* of the poured rows; "none" where nothing is poured */
 };
@@ -50,8 +50,18 @@ struct beside {
 void put_run(struct text *text, const char *mark, const struct run_id *run);
 const char *take_run(const char *lines, const char *mark, struct run_id *run);
 
+/* The rule of this program: that of the library that it is linked with. */
+uint32_t own_rule(void);
+
 /* A rule that is not this program's, in words: "an earlier program's rule (1)". */
 struct standing rule_words(uint32_t rule);
+
+/* That steps were taken by another rule than this program's: "its steps were taken by an earlier program's rule (1);
+   this program's is 2". Empty where they were not, or nothing says by which rule they were: 0. */
+struct standing other_rule(uint32_t rule);
+
+/* Tells that, where there is something to tell. */
+void tell_rule(uint32_t rule);
 
 /* Whether two runs follow the same rule, take the same filter passes and pour the same water; whether they also began
    with the same channel. What differs is added to `how`. */
@@ -69,6 +79,13 @@ enum status beside_hold(const char *channel, struct beside *beside);
 
 /* What is known of a channel with these bytes; NULL if nothing is. */
 const struct saved *beside_find(const struct beside *beside, const struct hex *channel);
+
+/* The same of a channel with so many accepted steps, the last of them by the run that is spoken of: nothing is known of
+   how those were taken that a channel had when its run began. */
+const struct saved *beside_stepped(const struct beside *beside, const struct hex *channel, uint32_t accepted);
+
+/* The rule that a channel's last steps were taken by, as what stands beside it says; 0 where nothing does. */
+uint32_t rule_of(const char *path, const struct channel *channel);
 
 /* Says of the channel about to be saved what it is. `stands` is the one at its name, NULL if it is none of this run. */
 enum status beside_write(struct beside *beside, const struct run_id *run, const struct saved *stands,

@@ -1,16 +1,18 @@
 /* check.c: whether a file is a channel file or a staff record, and whether it is complete. */
-#include "channel.h"
+#include "beside.h"
 #include "commands.h"
 #include "options.h"
 #include "staff.h"
 
 #include <stdlib.h>
 
-/* Tells how a file stands that is in order; its status where it must be complete. */
-static enum status tell_standing(const char *path, const char *standing, bool complete, bool must)
+/* Tells how a file stands that is in order, and another rule than this program's that its steps were taken by; its
+   status where it must be complete. */
+static enum status tell_standing(const char *path, const char *standing, uint32_t rule, bool complete, bool must)
 {
     enum status status;
     tell("%s: %s", path, standing);
+    tell_rule(rule);
     status = told();
     return status == STATUS_DONE && must && !complete ? STATUS_OPEN : status;
 }
@@ -20,7 +22,8 @@ static enum status check_channel(const char *path, bool must)
     struct channel *channel = room_for(1, sizeof *channel);
     enum status status = channel_read(path, channel);
     if (status == STATUS_DONE)
-        status = tell_standing(path, standing(channel->bytes).text, pathpetal_complete(channel->bytes), must);
+        status = tell_standing(path, standing(channel->bytes).text, rule_of(path, channel),
+                               pathpetal_complete(channel->bytes), must);
     free(channel);
     return status;
 }
@@ -34,7 +37,7 @@ static enum status check_record(const char *path, bool must)
         status = STATUS_REFUSED;
     }
     if (status == STATUS_DONE)
-        status = tell_standing(path, staffs_standing(&staffs).text, staffs.whole == RECORD_COMPLETE, must);
+        status = tell_standing(path, staffs_standing(&staffs).text, staffs.rule, staffs.whole == RECORD_COMPLETE, must);
     staffs_free(&staffs);
     return status;
 }

@@ -78,8 +78,9 @@ static const char check_help[] =
     "pathpetal check FILE [--complete]\n"
     "pathpetal check --staff RECORD.csv [--complete]\n"
     "\n"
-    "Whether FILE is a channel file that a run takes, or RECORD.csv a staff record of which nothing is\n"
-    "lost or changed (0), or why not in words (3).\n"
+    "Whether FILE is a channel file, or RECORD.csv a staff record of which nothing is lost or changed\n"
+    "(0), or why not in words (3). Where its steps were taken by another rule than this program's, that\n"
+    "is told too: no run goes on with such a channel.\n"
     "\n"
     "  --staff      the file is a staff record\n"
     "  --complete   also whether it is complete: 5 if it is open\n" STATUSES;

@@ -1,4 +1,5 @@
 #include "pictures.h"
+#include "beside.h"
 #include "svg.h"
 
 #include <stdio.h>
@@ -26,11 +27,15 @@ static const char *short_name(const char *path)
     return slash && slash[1] ? slash + 1 : path;
 }
 
-static void head(struct text *svg, const char *name, const char *standing, bool complete, const char *about)
+static void head(struct text *svg, const char *name, const char *standing, bool complete, uint32_t rule,
+                 const char *about)
 {
+    struct standing other = other_rule(rule);
     svg_words(svg, LEFT, 34, "title", short_name(name));
     svg_words(svg, LEFT, 58, complete ? "done" : "open", standing);
     svg_words(svg, RIGHT, 58, "right", about);
+    if (other.text[0])
+        svg_words(svg, LEFT, 76, "open", other.text);
 }
 
 /* The middle of a cell, m from the left wall. */
@@ -148,7 +153,7 @@ static void key(struct text *svg, double y)
     svg_words(svg, LEFT + 324, y, "", "bottom");
 }
 
-void draw_channel(struct text *svg, const char *name, const uint8_t *file)
+void draw_channel(struct text *svg, const char *name, const uint8_t *file, uint32_t rule)
 {
     double length = (double)pathpetal_cells(file) * pathpetal_width_mm(file) / 1000.0;
     struct axis across = axis_for(0, length, LEFT, RIGHT, 12, false);
@@ -156,7 +161,7 @@ void draw_channel(struct text *svg, const char *name, const uint8_t *file)
     snprintf(about, sizeof about, "at %s s; water sum %s \xC2\xB5m",
              THOUSANDTHS((int64_t)pathpetal_accepted(file) * pathpetal_step_ms(file)), GROUPED(water_sum(file)));
     svg_begin(svg, WIDTH, 710);
-    head(svg, name, standing(file).text, pathpetal_complete(file), about);
+    head(svg, name, standing(file).text, pathpetal_complete(file), rule, about);
     surface_panel(svg, &across, file);
     bottom_panel(svg, &across, file);
     key(svg, 698);
@@ -247,7 +252,7 @@ void draw_staffs(struct text *svg, const char *name, const struct staffs *staffs
              staffs->rows == 1 ? "" : "s");
     below = 96 + (double)staffs->count * (tall + STAFF_APART) + 30;
     svg_begin(svg, WIDTH, below + (staffs->counted ? STAFF_APART : 0));
-    head(svg, name, staffs_standing(staffs).text, staffs->whole == RECORD_COMPLETE, about);
+    head(svg, name, staffs_standing(staffs).text, staffs->whole == RECORD_COMPLETE, staffs->rule, about);
     for (size_t k = 0; k < staffs->count; k++) {
         double top = 104 + (double)k * (tall + STAFF_APART);
         struct axis up = axis_for(lowest, highest, top + tall, top, 4, true);

@@ -5,8 +5,8 @@
 #include "staff.h"
 #include "text.h"
 
-/* A channel file that the library takes. */
-void draw_channel(struct text *svg, const char *name, const uint8_t *file);
+/* A channel file that the library takes; the rule is that of its steps, 0 where nothing says it. */
+void draw_channel(struct text *svg, const char *name, const uint8_t *file, uint32_t rule);
 
 void draw_staffs(struct text *svg, const char *name, const struct staffs *staffs);
 

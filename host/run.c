@@ -418,7 +418,7 @@ static enum status read_start(struct run *run, struct beside *beside)
 static enum status taken_otherwise(const struct run *run, bool same_rule, const char *how)
 {
     say("%s: its last steps were taken %s: %s", run->start, same_rule ? "with other options" : "by another rule", how);
-    say("%s; or, to begin a run of its own from it, copy it under another name",
+    say("%s; or, to begin a run of its own from it, copy it under another name, without its .run",
         same_rule ? "give the same options" : "begin again with the channel that its run began with");
     return STATUS_REFUSED;
 }
@@ -432,16 +432,17 @@ static enum status know_start(struct run *run, const struct beside *beside)
     enum status status = STATUS_DONE;
     run->id.origin = sum_of(run->channel.bytes, run->channel.length);
     run->id.origin_step = accepted;
-    found = beside_find(beside, &run->id.origin);
-    if (found && found->step == accepted && accepted > beside->run.origin_step) {
+    found = beside_stepped(beside, &run->id.origin, accepted);
+    if (found) {
         bool same_rule = beside->run.rule == run->id.rule;
         /* no option does anything to a complete channel, but an END of another rule is none of this one */
         if (!same_options(&beside->run, &run->id, &how) && !(same_rule && pathpetal_complete(run->channel.bytes)))
             status = taken_otherwise(run, same_rule, how.at);
         run->id = beside->run;
         run->start_saved = *found;
-    } else if (accepted > 0 && !found) {
-        say("%s: nothing beside it says under which options its %s steps were taken", run->start, GROUPED(accepted));
+    } else if (accepted > 0) {
+        say("%s: nothing beside it says by which rule and under which options its %s steps were taken", run->start,
+            GROUPED(accepted));
     }
     free(how.at);
     return status;
@@ -622,7 +623,7 @@ enum status run_command(int count, char **words)
                                {.name = NULL}};
     struct run *run = room_for(1, sizeof *run);
     enum status status;
-    run->id.rule = PATHPETAL_RULE;
+    run->id.rule = own_rule();
     run->end.use = "END";
     run->checkpoint.use = "the checkpoint";
     run->end.beside.file = run->checkpoint.beside.file = -1;

@@ -58,6 +58,8 @@ enum status save_hold(struct save *save, const struct run_id *run, bool replace)
     status = know(save, run, &how);
     if (status == STATUS_DONE && !save->own && !replace)
         status = is_there(save, &how);
+    else if (status == STATUS_DONE && !save->own && how.length)
+        say("%s: is of another run (%s); with --replace it is written over", save->path, how.at);
     free(how.at);
     return status;
 }

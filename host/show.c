@@ -16,29 +16,7 @@ static struct grouped in_mm(int64_t um)
     return thousandths(um);
 }
 
-/* Tells the rule that steps were taken by, where it is not this program's. */
-static void tell_rule(uint32_t rule)
-{
-    if (rule != PATHPETAL_RULE)
-        tell("  its steps were taken by %s; this program's is %d", rule_words(rule).text, PATHPETAL_RULE);
-}
-
-/* The rule that a channel's steps were taken by; this program's where nothing beside it says it. */
-static uint32_t rule_of(const char *path, const struct channel *channel)
-{
-    struct hex sum = sum_of(channel->bytes, channel->length);
-    struct beside beside;
-    uint32_t rule = PATHPETAL_RULE;
-    if (beside_read(path, &beside) == STATUS_DONE) {
-        const struct saved *found = beside_find(&beside, &sum);
-        if (found && found->step > beside.run.origin_step)
-            rule = beside.run.rule;
-    }
-    beside_free(&beside);
-    return rule;
-}
-
-static void tell_channel(const char *path, const struct channel *channel)
+static void tell_channel(const char *path, const struct channel *channel, uint32_t rule)
 {
     const uint8_t *file = channel->bytes;
     uint32_t cells = pathpetal_cells(file), step_ms = pathpetal_step_ms(file);
@@ -51,7 +29,7 @@ static void tell_channel(const char *path, const struct channel *channel)
     }
     tell("%s", path);
     tell("  %s", standing(file).text);
-    tell_rule(rule_of(path, channel));
+    tell_rule(rule);
     tell("  time run       %s s of %s s, in steps of %s ms",
          THOUSANDTHS((int64_t)pathpetal_accepted(file) * step_ms),
          THOUSANDTHS((int64_t)pathpetal_wanted(file) * step_ms), GROUPED(step_ms));
@@ -112,12 +90,13 @@ static enum status show_channel(const char *path, const char *picture, bool repl
     struct channel *channel = room_for(1, sizeof *channel);
     struct text svg = {0};
     enum status status = channel_read(path, channel);
+    uint32_t rule = status == STATUS_DONE ? rule_of(path, channel) : 0;
     if (status == STATUS_DONE && picture) {
-        draw_channel(&svg, path, channel->bytes);
+        draw_channel(&svg, path, channel->bytes, rule);
         status = write_picture("FILE", path, picture, &svg, replace);
     }
     if (status == STATUS_DONE) {
-        tell_channel(path, channel);
+        tell_channel(path, channel, rule);
         status = told();
     }
     free(svg.at);

@@ -177,7 +177,7 @@ static void judge(const struct csv *csv, const struct lines *lines, const struct
         staffs->accepted = tail.accepted;
         staffs->wanted = tail.wanted;
     }
-    staffs->rule = headed && staffs->whole != RECORD_CHANGED ? head.run.rule : PATHPETAL_RULE;
+    staffs->rule = headed && staffs->whole != RECORD_CHANGED ? head.run.rule : 0;
 }
 
 /* Looks at a time beside its step. */

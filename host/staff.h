@@ -22,7 +22,7 @@ struct staffs {
     uint32_t accepted; /* the count that the record has come to */
     uint32_t wanted;   /* 0 where the record does not say it */
     int64_t step_ms;   /* the time of a step; 0 where no row tells it */
-    uint32_t rule;     /* that the run's steps followed; this program's where the record does not say it */
+    uint32_t rule;     /* that the run's steps followed; 0 where the record has no head, or is not whole */
     enum whole whole;
     bool counted;      /* it is whole, complete or open, and says what its gauges counted: */
     struct waves *waves; /* of each staff */

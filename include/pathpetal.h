@@ -8,7 +8,7 @@
    Every call ends, for any bytes of any length, in the rule's result or in one numbered refusal, and a refused
    call leaves every byte as it was.
 
-   THE ANSWER is one 64-bit number: count * 33554432 + place * 65536 + number * 256 + stage.
+   THE ANSWER of all but pathpetal_rule is one 64-bit number: count * 33554432 + place * 65536 + number * 256 + stage.
      number  0 when the call did what was asked, else why it did not: see the list below
      stage   of a step, and of the step that ended a run: where it was refused, 0 for the prediction and for
              everything before it, 1 to 10 for that correction; 0 in all other calls
@@ -52,10 +52,6 @@
 #include <stddef.h>
 #include <stdint.h>
 
-/* The rule by which steps and filter passes are taken: 1 before the start ladder, 2 with it. It grows whenever a call
-   gives other numbers for the same input, so that a host can tell what it may go on with. */
-#define PATHPETAL_RULE 2
-
 #ifdef __cplusplus
 extern "C" {
 #endif
@@ -93,6 +89,11 @@ enum pathpetal_reason {
     PATHPETAL_BAD_ACCELERATION = 36, /* an acceleration is not within 10^11 um/s2 */
     PATHPETAL_BAD_POURED = 37        /* a poured amount is not within 1,000,000 um */
 };
+
+/* The rule that all calls of the library that is linked follow: 2, and no answer as above. It grows whenever a call
+   comes to leave other numbers in a file for the same input, so that a host can tell what it may go on with. Rule 1 was
+   that before the start ladder, the time weights of a first and a second step; its library has no such function. */
+uint64_t pathpetal_rule(void);
 
 /* Makes the file of a new channel, with no step accepted, in the file_len bytes at file: exactly
    pathpetal_length(cells). depths, heights and velocities hold 4 bytes for each cell, signed and little-endian

@@ -35,12 +35,6 @@
 // Browsers and node of 2021 or later: the file takes 64-bit numbers as BigInt, which this module hides, and copies
 // memory by the engine's own instructions.
 
-/**
- * The rule by which steps and filter passes are taken, as in pathpetal.h: 1 before the start ladder, 2 with it. It
- * grows whenever a call gives other numbers for the same input, so that a page can tell what it may go on with.
- */
-export const RULE = 2;
-
 /** The bytes of gauges: `new Uint8Array(GAUGES_LENGTH)` holds none. */
 export const GAUGES_LENGTH = 512;
 
@@ -223,7 +217,7 @@ export function row(values) {
  * @typedef {Record<string, (...given: (number | bigint)[]) => bigint>} Calls
  */
 
-const names = ['make', 'check', 'step', 'filter', 'run', 'place_gauge', 'feed_gauges', 'read_gauges'].map((name) => `pathpetal_${name}`);
+const names = ['rule', 'make', 'check', 'step', 'filter', 'run', 'place_gauge', 'feed_gauges', 'read_gauges'].map((name) => `pathpetal_${name}`);
 
 /**
  * @param {number | bigint} count
@@ -289,11 +283,22 @@ export class Pathpetal {
     /** @param {WebAssembly.Instance} instance */
     constructor(instance) {
         const { memory, ...calls } = instance.exports;
-        if (!(memory instanceof WebAssembly.Memory) || names.some((name) => typeof calls[name] !== 'function'))
-            throw new TypeError('not the WebAssembly file of Pathpetal');
+        const lacks = memory instanceof WebAssembly.Memory ? names.find((name) => typeof calls[name] !== 'function') : 'memory';
+        if (lacks)
+            throw new TypeError(`not the WebAssembly file of Pathpetal, or not that of this module: it has no ${lacks}`);
         this.#at = PAGE * memory.grow(1);
         this.#room = new Uint8Array(memory.buffer, this.#at, PAGE);
         this.#calls = /** @type {Calls} */ (calls);
+    }
+
+    /**
+     * The rule that all calls of the WebAssembly file follow: 2. It grows whenever a call comes to leave other numbers in
+     * a file for the same input, so that a page can tell what it may go on with. Rule 1 was that before the start ladder,
+     * the time weights of a first and a second step; its file is not taken by this module.
+     * @returns {number}
+     */
+    get rule() {
+        return Number(this.#calls.pathpetal_rule());
     }
 
     /**

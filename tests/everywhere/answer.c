@@ -74,6 +74,12 @@ int main(int argc, char **argv)
         fputs("usage: answer CALLS ANSWERS\n", stderr);
         return 2;
     }
+#ifndef SECOND
+    if (pathpetal_rule() != 2) {
+        fputs("the library follows another rule than 2\n", stderr);
+        return 1;
+    }
+#endif
     FILE *calls = opened(argv[1], "rb"), *answers = opened(argv[2], "wb");
     while (more(calls)) {
         get_record(calls, &call);

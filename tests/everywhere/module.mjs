@@ -4,7 +4,7 @@ import assert from 'node:assert/strict';
 import { readFileSync } from 'node:fs';
 import { createServer } from 'node:http';
 import { pathToFileURL } from 'node:url';
-import { fileLength, GAUGES_LENGTH, load, Pathpetal, reasons, Refusal, row, RULE } from '../../include/pathpetal.mjs';
+import { fileLength, GAUGES_LENGTH, load, Pathpetal, reasons, Refusal, row } from '../../include/pathpetal.mjs';
 
 const [wasm, header] = process.argv.slice(2);
 const bytes = readFileSync(wasm);
@@ -21,7 +21,7 @@ async function test(what, body) {
     }
 }
 
-const names = ['make', 'check', 'step', 'filter', 'run', 'place_gauge', 'feed_gauges', 'read_gauges'].map((name) => `pathpetal_${name}`);
+const names = ['rule', 'make', 'check', 'step', 'filter', 'run', 'place_gauge', 'feed_gauges', 'read_gauges'].map((name) => `pathpetal_${name}`);
 const still = (cells, value) => row(Array(cells).fill(value));
 const start = (cells = 8) => ({
     cells, widthMm: 500, stepMs: 20, wanted: 5,
@@ -31,7 +31,7 @@ const refused = (number, stage, place = 0) => (error) =>
     error instanceof Refusal && error instanceof Error && error.name === 'Refusal' && error.number === number && error.stage === stage &&
     error.place === place && error.count === 0 && error.words === reasons[number] && error.message.includes(error.words);
 
-await test('the file exports the eight calls and its memory, and needs nothing', async () => {
+await test('the file exports the nine calls and its memory, and needs nothing', async () => {
     const module = await WebAssembly.compile(bytes);
     assert.deepEqual(WebAssembly.Module.exports(module).map((e) => e.name).sort(), ['memory', ...names].sort());
     assert.deepEqual(WebAssembly.Module.imports(module), []);
@@ -48,8 +48,11 @@ await test('the words are those of pathpetal.h', () => {
     assert.ok(Object.isFrozen(reasons));
 });
 
-await test('the rule is that of pathpetal.h', () => {
-    assert.deepEqual(readFileSync(header, 'utf8').match(/^#define PATHPETAL_RULE (\d+)$/m)?.slice(1), [`${RULE}`]);
+await test('the rule is the one that the file follows, and that of which pathpetal.h speaks', () => {
+    assert.equal(pathpetal.rule, 2);
+    assert.match(readFileSync(header, 'utf8'), new RegExp(`The rule that all calls of the library that is linked follow: ${pathpetal.rule},`));
+    const exports = { memory: new WebAssembly.Memory({ initial: 1 }), ...Object.fromEntries(names.map((name) => [name, () => 7n])) };
+    assert.equal(new Pathpetal({ exports }).rule, 7);
 });
 
 await test('the parts of an answer come back, and a message names the cell or the face', () => {
@@ -95,7 +98,7 @@ await test('a file that lacks a call is not that of Pathpetal', () => {
     const exports = { memory: new WebAssembly.Memory({ initial: 1 }), ...Object.fromEntries(names.map((name) => [name, () => 0n])) };
     assert.ok(new Pathpetal({ exports }));
     for (const name of Object.keys(exports))
-        assert.throws(() => new Pathpetal({ exports: { ...exports, [name]: undefined } }), TypeError);
+        assert.throws(() => new Pathpetal({ exports: { ...exports, [name]: undefined } }), { name: 'TypeError', message: new RegExp(`it has no ${name}$`) });
 });
 
 await test('load takes bytes, a buffer, a URL, its text, a response and the promise of one', async () => {

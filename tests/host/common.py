@@ -16,6 +16,8 @@ COUNTS = ("--width-mm", 1000, "--step-ms", 40, "--steps", 300)
 POUR = [(step, 1 + step % 30, 300 - 7 * (step % 90)) for step in range(3, 290, 4)] + [(150, 2, 500), (150, 30, -500)]
 STAFFS = (3, 30, 1)
 OPTIONS = ("--filter-every", 7, "--pour", "pour.csv", "--staff", "3,30,1", "--every", 5)
+NO_STAFFS = OPTIONS[:4]  # the same run without a record
+ALL = "complete: 300 of 300 steps accepted"
 
 
 class Tested:

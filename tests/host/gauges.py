@@ -2,18 +2,16 @@
 import os, random, re, shutil, signal
 import xml.etree.ElementTree as xml
 
-from common import (INTERRUPTED, OPEN, OPTIONS, POUR, REFUSED, STAFFS, TOP, check, counted, forget, go, group, grown,
-    known, listing, parts_left, read, saved, start, tested, until, write)
+from common import (ALL, INTERRUPTED, NO_STAFFS, OPEN, OPTIONS, POUR, REFUSED, STAFFS, TOP, check, counted, forget, go,
+    group, grown, known, listing, parts_left, read, saved, start, tested, until, write)
 from formats import (Gauge, beside, count_lines, counts, every_height, gauge_lines, heights, lines_of, record_end,
     record_rows, survey, unruled, up_to, wave_words, whole_record)
 
-ALL = "complete: 300 of 300 steps accepted"
 BY = "  waves by the proved counts of {}; in brackets the time of the largest, noted by the host\n"
 NONE = "  no counts of waves: {}\n"
 EARLIER = NONE.format("an earlier program wrote this record")
 CUT = NONE.format("the run that writes them was cut, or still goes; give its command again")
 UNTRUE = "the gauges beside it cannot be its own"
-NO_STAFFS = OPTIONS[:4]  # the same run without a record
 
 
 def gauges(begin, end, record):

@@ -37,7 +37,7 @@ def mixed_records(begin):
             _, err = go("run", source, "-o", "mixed.end", *staffs, "--record", "r.csv", status=REFUSED,
                 says="r.csv.open: .*(it is left from another run: remove it|its rows up to step 155 .*this run began "
                      "with), or record under another name", name=name)
-            check(("copied: nothing beside it says under which options its 155 steps were taken" in err) == (not known),
+            check(("copied: nothing beside it says by which rule and under which options its 155 steps were taken" in err) == (not known),
                 f"whether START is known: {err!r}")
             check(listing() == before, f"{name}: something was written or changed")
     # the same run's own rows are gone on with, at this count too
@@ -119,7 +119,7 @@ def other_options(begin, end, record):
     # a copy under another name begins a run of its own, and says so
     shutil.copy("o.check", "own.channel")
     go("run", "own.channel", "-o", "own.end",
-        says="own.channel: nothing beside it says under which options its 280 steps")
+        says="own.channel: nothing beside it says by which rule and under which options its 280 steps")
     check(read("own.end.run").decode() == beside((read("own.channel"), 0, []), (read("own.end"), None)),
         "a run of its own")
     # what stands beside another channel of that name says nothing of this one

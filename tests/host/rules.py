@@ -1,19 +1,17 @@
 """What programs left that took their steps by another rule: it is named, never taken for this run's own, and stays."""
 import itertools, os, re, shutil
 
-from common import (DONE, OPEN, OPTIONS, POUR, REFUSED, STAFFS, check, counted, forget, go, group, known, listing, read,
-    saved, write)
+from common import (ALL, DONE, NO_STAFFS, OPEN, OPTIONS, POUR, REFUSED, STAFFS, check, counted, forget, go, group, known,
+    listing, read, saved, write)
 from formats import RULE, beside, counts, head_of, record_end, record_head, record_rows, summed, unruled, up_to, \
     whole_record
 
-ALL = "complete: 300 of 300 steps accepted"
 NAMES = ("v.end", "v.check", "v.csv.open", "v.csv")  # in the order in which a run looks at them
 COMMAND = ("run", "start.channel", "-o", "v.end", *OPTIONS, "--record", "v.csv", "--checkpoint", "v.check",
     "--checkpoint-every", 140)
 FILES = ("v.csv", "v.csv.open", *saved("v.end", "v.check"))  # all that it can leave
-NO_STAFFS = OPTIONS[:4]  # the same run without a record
 NAMED = "v.csv: is there already and is not written over; give another name for RECORD, or --replace"
-UNKNOWN = "nothing beside it says under which options its {} steps were taken"
+UNKNOWN = "nothing beside it says by which rule and under which options its {} steps were taken"
 
 
 def rules(begin, end, record):
@@ -39,7 +37,7 @@ def taken_by(rule, path, more=""):
     """What is said of a START whose steps were taken by another rule."""
     return f"pathpetal: {path}: its last steps were taken by another rule: {differs(rule)}{more}\npathpetal: begin " \
         "again with the channel that its run began with; or, to begin a run of its own from it, copy it under " \
-        "another name\n"
+        "another name, without its .run\n"
 
 
 class Earlier:
@@ -98,8 +96,11 @@ def left_by_earlier(begin, end, record, earlier):
         # with --replace: as in one go
         earlier.leave(*names)
         _, err = go(*COMMAND, "--replace", name=f"{names}, --replace")
-        over = f"pathpetal: v.csv.open: is left from another run ({differs(1)}), and is written over\n"
-        check(err == (over if "v.csv.open" in names else ""), f"{names}, --replace: {err!r}")
+        over = "".join(f"pathpetal: {name}: is of another run ({differs(1)}); with --replace it is written over\n"
+            for name in ("v.end", "v.check") if name in names)
+        if "v.csv.open" in names:
+            over += f"pathpetal: v.csv.open: is left from another run ({differs(1)}), and is written over\n"
+        check(err == over, f"{names}, --replace: {err!r}")
         check(read("v.end") == end and read("v.csv") == record and not os.path.exists("v.csv.open"),
             f"{names}, --replace: other bytes")
         check(read("v.end.run").decode() == beside((begin, 7, POUR), known(end, up_to(record, 300))),
@@ -173,7 +174,9 @@ def start_of_earlier(begin, end, record, earlier):
         write("v.end", channel)
         write("v.end.run", beside((channel, 7, POUR, 1), (channel, None)))
         _, err = go("run", "v.end", "-o", "w.end", *NO_STAFFS)
-        check(err == "" and (channel != begin or read("w.end") == end), f"a channel that a run began with: {err!r}")
+        steps = counts(channel)[1]
+        check(err == (f"pathpetal: v.end: {UNKNOWN.format(steps)}\n" if steps else "") and
+            (channel != begin or read("w.end") == end), f"a channel that a run began with: {err!r}")
         forget(*saved("v.end", "w.end"))
 
 
@@ -244,7 +247,8 @@ def said_in_a_record(record):
         out, _ = go("show", "--staff", "v.csv", name=f"show, {text!r}")
         check(out == shown_as("v.csv", record, rule) if rule else
             "not whole: cut or changed after it was written" in out and "rule" not in out, f"show, {text!r}: {out}")
-        go("check", "--staff", "v.csv", "--complete", status=DONE if rule else REFUSED, name=f"check, {text!r}")
+        out, _ = go("check", "--staff", "v.csv", "--complete", status=DONE if rule else REFUSED, name=f"check, {text!r}")
+        check(out == (f"v.csv: complete: all 300 steps accepted\n{told(rule)}" if rule else ""), f"check, {text!r}: {out}")
         forget("v.csv")
 
 
@@ -254,7 +258,19 @@ def shown_as(path, record, rule):
     write(path, record)
     first, second, *rest = go("show", "--staff", path)[0].splitlines(True)
     write(path, kept)
-    return "".join((first, second, f"  its steps were taken by {whose(rule)}; this program's is {RULE}\n", *rest))
+    return "".join((first, second, told(rule), *rest))
+
+
+def told(rule):
+    return f"  its steps were taken by {whose(rule)}; this program's is {RULE}\n"
+
+
+def drawn(words, path):
+    """Whether the picture of a channel or a record says what is told of its rule."""
+    go("show", *words, path, "--svg", "v.svg", "--replace")
+    picture = read("v.svg").decode()
+    forget("v.svg")
+    return re.findall(r">(its steps were taken by [^<]*)<", picture)
 
 
 def shown_records(record):
@@ -266,7 +282,9 @@ def shown_records(record):
         write("v.csv", unruled(now) if now[-1:] == b"\n" else unruled(record)[:-9])
         out, _ = go("show", "--staff", "v.csv", name=name)
         check(out == shown_as("v.csv", now, 1), f"{name}: {out}")
-        go("check", "--staff", "v.csv", "--complete", status=status, name=name)
+        check(drawn(("--staff",), "v.csv") == [told(1).strip()], f"{name}: its picture")
+        out, _ = go("check", "--staff", "v.csv", "--complete", status=status, name=name)
+        check(out.endswith(told(1)), f"{name}: {out}")
     # what is not whole, or has no head, says no rule
     old = unruled(record)
     head, body = head_of(old), old[:old.rindex(b"#")]
@@ -278,6 +296,7 @@ def shown_records(record):
         write("v.csv", text)
         out, _ = go("show", "--staff", "v.csv", name=name)
         check("complete:" not in out and "rule" not in out, f"{name}: {out}")
+        check(drawn(("--staff",), "v.csv") == [], f"{name}: its picture")
         go("check", "--staff", "v.csv", "--complete", status=REFUSED, name=name)
     forget("v.csv")
 
@@ -291,11 +310,14 @@ def shown_channels(begin, end):
                                ((begin, 7, POUR, 3), end, 3), ((begin, 7, POUR, 1), begin, None),
                                ((end, 7, POUR, 1), end, None)):
         write("v.end.run", beside(run, (channel, None)))
-        told = f"  its steps were taken by {whose(rule)}; this program's is {RULE}\n" if rule else ""
+        said = told(rule) if rule else ""
         out, err = go("show", "v.end")
-        check(out == "".join((first, second, told, *rest)) and err == "", f"{run[3:]}, {rule}: {out}, {err!r}")
+        check(out == "".join((first, second, said, *rest)) and err == "", f"{run[3:]}, {rule}: {out}, {err!r}")
+        check(drawn((), "v.end") == ([said.strip()] if rule else []), f"{run[3:]}, {rule}: its picture")
+        out, err = go("check", "v.end", "--complete")
+        check(out == f"v.end: complete: all 300 steps accepted\n{said}" and err == "", f"{run[3:]}, {rule}: {out}, {err!r}")
         os.symlink("v.end", "link")
-        check((told in go("show", "link")[0]) if told else "rule" not in go("show", "link")[0], "by a link")
+        check((said in go("show", "link")[0]) if said else "rule" not in go("show", "link")[0], "by a link")
         os.remove("link")
     write("v.end.run", beside((begin, 7, POUR, 1), (end, None))[:-1])
     check(go("show", "v.end")[0] == plain, "what no run has written says nothing")

@@ -1045,7 +1045,8 @@ static void known_places(void)
     expect(is_at(compare(RUN, &c), 4, 0, 3, 0), "cell 3 falls dry in a run");
 }
 
-/* Water that slopes from wall to wall, at rest: its first steps, and a run of as many, from the same file. */
+/* Water that slopes from wall to wall, at rest: its first steps, and a run of as many, from the same file. Other numbers
+   than these would be another rule's, which then has another number. */
 static void known_first_steps(void)
 {
     static const int32_t first[3] = {15971, 15884, 15742};
@@ -1055,6 +1056,7 @@ static void known_first_steps(void)
     for (size_t j = 0; j < 16; j++)
         s.depths[j] = 1000, s.heights[j] = 16000 - 1000 * (int32_t)j, s.velocities[j] = 0, s.poured[j] = 0;
     set_scene(&c, &s);
+    expect(pathpetal_rule() == 2, "the rule's number");
     expect(is(compare(MAKE, &c), 0, 0, 0), "a slope of 16 cells is made");
     set_file(&ran, &c);
     for (int i = 0; i < 3; i++) {

@@ -1,11 +1,13 @@
--- Any two outcomes that the contracts of the eight exported functions permit coincide: for all numbers and bytes, each answers one
--- number and leaves one file, one state of the gauges or one row of readings. `Post` is the contract itself, as the check reads it. Assumes nothing.
+-- Any two outcomes that the contracts of the nine exported functions permit coincide: for all numbers and bytes, each answers one
+-- number and leaves one file, one state of the gauges or one row of readings; the rule's number is one, too. `Post` is the contract itself, as the check reads it. Assumes nothing.
 use Prim.Native.Nat.{ℕ}
 use mathlib.Core.Path.{_≡_, sym, _∙_}
 use contract.Lifetimes.{Lfts}
 use denote.Ref.{now}
 use denote.Triple.Clauses.{AtExit}
 use borrow.Fn.Kinds.{Dens, resT, endedOf}
+use Rattle.pathpetal.proofs.pathpetal_rule.Kinds as rule-kinds
+use Rattle.pathpetal.proofs.pathpetal_rule.Reads as rule-reads
 use Rattle.pathpetal.proofs.pathpetal_make.Kinds as make-kinds
 use Rattle.pathpetal.proofs.pathpetal_make.Reads as make-reads
 use Rattle.pathpetal.proofs.pathpetal_check.Kinds as check-kinds
@@ -31,6 +33,10 @@ pub record Coincide {A : Type 0} (r r′ : ℕ) (s s′ : A) : Type 0 where
 -- what both contracts say they are
 coincide : {A : Type 0} {r r′ n : ℕ} {s s′ t : A} → (r ≡ n) × (s ≡ t) → (r′ ≡ n) × (s′ ≡ t) → Coincide r r′ s s′
 coincide p p′ = record { answer = p .0 ∙ sym (p′ .0); left = p .1 ∙ sym (p′ .1) }
+
+module _ (κs : Lfts 0) where
+  pub one-outcome-rule : (a : Dens κs rule-kinds.ps) (r r′ : resT rule-kinds.r κs .Denot) (x x′ : AtExit (endedOf 0 rule-kinds.ps rule-kinds.r) κs) → rule-reads.Post κs a r x → rule-reads.Post κs a r′ x′ → _≡_ {A = ℕ} r r′
+  one-outcome-rule a r r′ x x′ p p′ = p ∙ sym p′
 
 module _ (κs : Lfts 4) where
   pub one-outcome-make : (a : Dens κs make-kinds.ps) (r r′ : resT make-kinds.r κs .Denot) (x x′ : AtExit (endedOf 4 make-kinds.ps make-kinds.r) κs) → make-reads.Post κs a r x → make-reads.Post κs a r′ x′ → Coincide r r′ (now (x .1 .1 .1 .1 .1 .1 .1 .0)) (now (x′ .1 .1 .1 .1 .1 .1 .1 .0))

@@ -1,8 +1,17 @@
-// What C calls: each call over the bytes of a channel file or of gauges, with its answer packed into one number.
+// What C calls: each call over the bytes of a channel file or of gauges, with its answer packed into one number; and which rule
+// they follow.
 ghost use mathlib.Core.Path.{_≡_};
-ghost use Rattle.rule.specs.Calls.{packed, checkFile, stepFile, filterFile, runForFile, makeFile};
+ghost use Rattle.rule.specs.Calls.{ruleNumber, packed, checkFile, stepFile, filterFile, runForFile, makeFile};
 ghost use Rattle.little.specs.Numbers.{AreBytes};
 ghost use Rattle.gauge.specs.OnGauges.{placeFile, feedFile, readState};
+
+// The rule that all calls follow: whoever goes on with a file asks whether its steps were taken by the same.
+#[no_mangle]
+pub extern "C" fn pathpetal_rule() -> u64
+    ensures { λ r. ⌜ r ≡ ruleNumber ⌝ }
+{
+    2
+}
 
 // Makes the file of a channel with no step accepted.
 #[no_mangle]
