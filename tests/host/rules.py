@@ -266,7 +266,7 @@ def told(rule):
 
 
 def drawn(words, path):
-    """Whether the picture of a channel or a record says what is told of its rule."""
+    """What the picture of a channel or a record says of its rule."""
     go("show", *words, path, "--svg", "v.svg", "--replace")
     picture = read("v.svg").decode()
     forget("v.svg")
