@@ -98,11 +98,13 @@ static inline void add_to(struct sums *sums, double new, double old)
     sums->size += fabs(new);
 }
 
-/* n / d for an even d > 0, nearest, a half going away from zero. */
+/* n / d for an even d > 0, nearest, a half going to the even number. Of a half
+   q is the neighbour further from zero, and the sum has no rest. */
 static inline int64_t rounded_quotient(int64_t n, int64_t d)
 {
-    int64_t q = (int64_t)((uint64_t)(size_of(n) + d / 2) / (uint64_t)d);
-    return n < 0 ? -q : q;
+    uint64_t sum = (uint64_t)(size_of(n) + d / 2), q = sum / (uint64_t)d;
+    q -= q & (q * (uint64_t)d == sum);
+    return n < 0 ? -(int64_t)q : (int64_t)q;
 }
 
 static struct divisor divisor(int64_t d)
@@ -121,17 +123,11 @@ static inline bool whole_within(int64_t n, int64_t most)
 }
 
 /* The whole number nearest to v, a half going to the even one, for
-   |v| < 2^51: between 2^52 and 2^53 the floats are the whole numbers. */
-static inline double nearest(double v)
-{
-    return (v + 0x1.8p52) - 0x1.8p52;
-}
-
-/* The same with a half going away from zero. */
+   |v| < 2^51: between 2^52 and 2^53 the floats are the whole numbers, and the
+   sum, a float operation, goes to one of them by just that rule. */
 static inline double rounded(double v)
 {
-    double n = nearest(v);
-    return fabs(v - n) == 0.5 ? v + copysign(0.5, v) : n;
+    return (v + 0x1.8p52) - 0x1.8p52;
 }
 
 /* rounded_quotient, for |n| < 2^62 and a quotient below 2^40. The float
@@ -139,7 +135,7 @@ static inline double rounded(double v)
    nearest to it is the answer if it leaves a rest smaller than d/2. */
 static inline int64_t quick_quotient(int64_t n, struct divisor by)
 {
-    int64_t q = (int64_t)nearest((double)n * by.inverse);
+    int64_t q = (int64_t)rounded((double)n * by.inverse);
     int64_t rest = n - q * by.d;
     return whole_within(rest, by.d / 2 - 1) ? q : rounded_quotient(n, by.d);
 }

@@ -124,28 +124,69 @@ static unsigned input_number(struct rig *rig)
 
 static void case_1_rounding(void)
 {
-    check(rounded(0.5) == 1 && rounded(-0.5) == -1 && rounded(1.2) == 1, "case 1");
+    static const double halves[] = {0.5, 1.5, 2.5, 3.5, -0.5, -1.5, -2.5, -3.5};
+    static const int64_t even[] = {0, 2, 2, 4, 0, -2, -2, -4};
+    check(rounded(0.5) == 0 && rounded(-0.5) == 0 && rounded(1.2) == 1 && rounded(1.5) == 2,
+          "case 1");
+    for (size_t i = 0; i < sizeof halves / sizeof *halves; i++) {
+        check(rounded(halves[i]) == (double)even[i], "a half goes to the even number");
+        check(rounded(halves[i] * (1 - 0x1p-53)) == halves[i] - copysign(0.5, halves[i]),
+              "just below a half");
+        check(rounded(halves[i] * (1 + 0x1p-52)) == halves[i] + copysign(0.5, halves[i]),
+              "just above a half");
+    }
     check(rounded(0.49999999999999994) == 0 && rounded(-0.49999999999999994) == 0,
-          "just below a half");
-    check(rounded(2.5) == 3 && rounded(-2.5) == -3 && rounded(3.5) == 4 && rounded(1.5) == 2,
-          "halves go away from zero");
-    check(rounded(0.5000000000000001) == 1 && rounded(-0.75) == -1, "above a half");
-    check(rounded(999999999999999.5) == 1e15 && rounded(-999999999999998.5) == -999999999999999,
+          "adding a half in floats would give 1");
+    check(rounded(-0.75) == -1 && rounded(1.25) == 1, "quarters");
+    check(rounded(999999999999999.5) == 1e15 && rounded(999999999999998.5) == 999999999999998 &&
+              rounded(-999999999999999.5) == -1e15 &&
+              rounded(-999999999999998.5) == -999999999999998,
           "halves near 10^15");
-    check(rounded(1e15) == 1e15 && rounded(-0.0) == 0, "whole numbers stay");
-    check(rounded_quotient(5, 10) == 1 && rounded_quotient(-5, 10) == -1 &&
-              rounded_quotient(4, 10) == 0 && rounded_quotient(-15, 10) == -2,
-          "quotients");
+    check(rounded(1e15) == 1e15 && rounded(-1e15) == -1e15 && rounded(-0.0) == 0,
+          "whole numbers stay");
+    check(rounded_quotient(5, 10) == 0 && rounded_quotient(-5, 10) == 0 &&
+              rounded_quotient(12, 10) == 1 && rounded_quotient(15, 10) == 2,
+          "case 1 of quotients");
+    check(rounded_quotient(4, 10) == 0 && rounded_quotient(6, 10) == 1 &&
+              rounded_quotient(-4, 10) == 0 && rounded_quotient(-6, 10) == -1 &&
+              rounded_quotient(14, 10) == 1 && rounded_quotient(-16, 10) == -2,
+          "quotients beside a half");
 }
 
-/* The quick quotient against the plain one, about halves above all. */
+/* Whether q is n / d, nearest, a half going to the even number: by what is left of n. */
+static bool is_rounded(int64_t q, int64_t n, int64_t d)
+{
+    int64_t rest = size_of(n - q * d);
+    return rest < d - rest || (rest == d - rest && q % 2 == 0);
+}
+
+/* Small numerators over every divisor that has no width of cells in it, and over one that has. */
+static void quotients(void)
+{
+    static const int64_t divisors[] = {2, 10, 12, 256, 12000, 24000, 120000};
+    for (size_t i = 0; i < sizeof divisors / sizeof *divisors; i++) {
+        int64_t d = divisors[i], wrong = 0, halves[2][2] = {{0}};
+        for (int64_t n = -4 * d; n <= 4 * d; n++) {
+            wrong += !is_rounded(rounded_quotient(n, d), n, d);
+            wrong += rounded_quotient(-n, d) != -rounded_quotient(n, d);
+            if (size_of(n % d) == d / 2)
+                halves[n < 0][n / d % 2 != 0]++;
+        }
+        check_number(wrong, 0, "plain quotients");
+        check(halves[0][0] == 2 && halves[0][1] == 2 && halves[1][0] == 2 && halves[1][1] == 2,
+              "halves of both signs, between an even number and an odd one");
+    }
+}
+
+/* The quick quotient against the plain one, about halves above all, and both against what is left
+   of the numerator. */
 static void quick_quotients(void)
 {
     static const int64_t divisors[] = {120000,        60000000,      12000,        24000,
                                        120000000,     240000000,     60000000000,  120000000000,
                                        204000000,     119976000000};
     uint64_t seed = 1;
-    unsigned wrong = 0;
+    unsigned wrong = 0, halves[2][2] = {{0}};
     for (size_t i = 0; i < sizeof divisors / sizeof *divisors; i++) {
         int64_t d = divisors[i], most = INT64_C(4400000000000000000);
         if (most / d > INT64_C(90000000000))
@@ -156,9 +197,14 @@ static void quick_quotients(void)
             int64_t n = t % 4 < 2 ? near : (int64_t)(seed >> 1) % most;
             n = t % 2 ? -n : n;
             wrong += quick_quotient(n, divisor(d)) != rounded_quotient(n, d);
+            wrong += !is_rounded(rounded_quotient(n, d), n, d);
+            if (size_of(n % d) == d / 2)
+                halves[n < 0][n / d % 2 != 0]++;
         }
     }
     check_number(wrong, 0, "quick quotients");
+    check(halves[0][0] > 1000 && halves[0][1] > 1000 && halves[1][0] > 1000 && halves[1][1] > 1000,
+          "halves among them");
 }
 
 static void case_2_D(void)
@@ -397,6 +443,25 @@ static void case_10_filter(void)
     check_accepted(call(&rig, FILTER), 0, "case 10, V filters");
     check_row(rig.c.V.at + 3, due, 9, "case 10, V");
     check(rig.c.V.at[2] == 0 && rig.c.V.at[12] == 0, "case 10, V beyond");
+}
+
+/* Half of case 10: every number that is not whole before it is rounded is a half. */
+static void filtered_halves(void)
+{
+    static const int64_t due_e[9] = {0, 4, -14, 28, 92, 28, -14, 4, 0};
+    static const int64_t due_V[9] = {0, 4, -14, 28, 93, 28, -14, 4, 0};
+    for (int64_t sign = -1; sign <= 1; sign += 2) {
+        struct rig rig;
+        bool good = true;
+        still(&rig, 16);
+        rig.c.e.at[7] = rig.c.V.at[7] = sign * 128;
+        check_accepted(call(&rig, FILTER), 0, "128 in cell 8 filters");
+        for (size_t j = 0; j < 9; j++)
+            good &= rig.c.e.at[3 + j] == sign * due_e[j] && rig.c.V.at[3 + j] == sign * due_V[j];
+        check(good, "128 in cell 8, filtered");
+        check(rig.c.e.at[2] == 0 && rig.c.e.at[12] == 0, "128 in cell 8, e beyond");
+        check(rig.c.V.at[2] == 0 && rig.c.V.at[12] == 0, "128 in cell 8, V beyond");
+    }
 }
 
 static void case_11_filter(void)
@@ -954,10 +1019,10 @@ static void whole_calls(void)
     static const int64_t stepped_V[9] = {1818,   -58020, -96255, 491541, -485530,
                                          167481, 7021,   3230,   350};
     static const int64_t stepped_Q[24] = {
-        -5740096009,  -11172864332, 47319395077, 5204561489,  -32806469833, 17120374213,
+        -5740096009,  -11172864332, 47319395077, 5204561489,  -32806469832, 17120374213,
         3566099202,   1654205762,   -5476430080, -9883378273, 50254639159,  6641074308,
         -34727060329, 14763689603,  2373663960,  1115120043,  -5107783021,  -8548622773,
-        52938384015,  8037591202,   -36435112420, 12408542492, 1122788083,  579153040};
+        52938384015,  8037591202,   -36435112420, 12408542491, 1122788083,  579153040};
     static const int64_t stepped_F[27] = {-40307,  193702,  -535726,  -1213066, 367477,  960216,
                                           205876,  82391,   19371,    -32053,   106816,  -493089,
                                           -1082166, 254289, 920273,   263253,   74501,   19170,
@@ -1075,7 +1140,7 @@ static void filtered_first_steps(void)
     static const int64_t before_second[16] = {15867, 14979, 13966, 12997, 11995, 10999,
                                               10000, 9000,  8000,  7001,  6001,  5005,
                                               4003,  3035,  2020,  1132};
-    static const int64_t before_third[16] = {15709, 14938, 13941, 12977, 11996, 10996, 10000, 9000,
+    static const int64_t before_third[16] = {15709, 14938, 13940, 12979, 11996, 10995, 10000, 9000,
                                              8000,  7002,  6005,  5004,  4023,  3059,  2062,  1288};
     struct rig rig;
     slope(&rig);
@@ -1676,6 +1741,7 @@ static void states_and_records(void)
 int main(void)
 {
     case_1_rounding();
+    quotients();
     quick_quotients();
     case_2_D();
     case_3_acceleration();
@@ -1690,6 +1756,7 @@ int main(void)
     strict_dominance();
     case_9_settling();
     case_10_filter();
+    filtered_halves();
     case_11_filter();
     filter_mirrors();
     ranges_before_rounding();
