@@ -55,10 +55,11 @@ static void put_levels(struct call *c, int row, size_t j, int64_t q, int64_t s)
 }
 
 /* By the first row of weights a correction is of the newest level and the trial's t alone, 12 of each over 24. Moves
-   the newest level of entry j to where that is a half, if it moves as much as before in the prediction. */
+   the newest level of entry j, which is an odd number of half units, to where that is a half, if it moves as much as
+   before in the prediction: the even one of its neighbours. */
 static void move_newest(struct call *c, int row, size_t j, int64_t unit, int64_t t)
 {
-    int64_t *q = &c->row[row][j], W = (llabs(*q) + unit / 2) / unit * (*q < 0 ? -1 : 1);
+    int64_t *q = &c->row[row][j], W = *q / unit + *q / unit % 2;
     int64_t off = (unit - t - W * unit) % (2 * unit);
     off += off < -unit ? 2 * unit : off > unit ? -2 * unit : 0;
     if (2 * llabs(off) < unit)

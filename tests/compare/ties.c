@@ -25,11 +25,14 @@ static bool met(enum place place, int near, bool negative, bool odd)
     return tie == turned;
 }
 
+/* A half goes to the even one of its neighbours: from zero if the one towards zero is odd. Turned, its numerator is
+   one off, to the other side of it. */
 static int64_t quotient_at(enum place place, int64_t n, int64_t d)
 {
-    if (size_of(n % d) != d / 2 || !met(place, IS_HALF, (n < 0) != (place == MINUS_F), n / d % 2 != 0))
+    bool odd = n / d % 2 != 0;
+    if (size_of(n % d) != d / 2 || !met(place, IS_HALF, (n < 0) != (place == MINUS_F), odd))
         return n;
-    return n < 0 ? n + 1 : n - 1;
+    return odd == (n < 0) ? n + 1 : n - 1;
 }
 
 /* n / d, for an even d, if it is a half; else 0. */
@@ -98,25 +101,28 @@ static double real_u(const struct work *k, size_t j)
     return in_halves && twice[j] % 2 ? (double)twice[j] / 2 : 0;
 }
 
-/* The float next to a half on the side of zero. */
-static double nearer_zero(double half)
+/* The float next to a half, on the side of zero or on the other. */
+static double beside(double half, bool nearer_zero)
 {
     uint64_t bits;
     memcpy(&bits, &half, sizeof bits);
-    bits--;
+    bits = nearer_zero ? bits - 1 : bits + 1;
     memcpy(&half, &bits, sizeof half);
     return half;
 }
 
+/* A half itself goes from zero if its neighbour towards zero is odd, a float that is larger than its half always, and
+   one that is smaller never. Turned, each is the float next to the half that goes to the other neighbour. */
 static double float_at(enum place place, double v, const struct work *k, size_t j, const int64_t *u)
 {
     double real = place == DISPERSIVE ? real_dispersive(k, j, u) : place == SOLVED_u ? real_u(k, j) : real_V(k, j, u);
     double half = fabs(v - (double)(int64_t)v) == 0.5 ? v : real;
     assert(real == 0 || fabs(v - real) <= 0.5);
     int near = v == half ? IS_HALF : fabs(v) < fabs(half) ? SMALLER : LARGER;
-    if (half == 0 || !met(place, near, half < 0, (int64_t)half % 2 != 0))
+    bool odd = (int64_t)half % 2 != 0;
+    if (half == 0 || !met(place, near, half < 0, odd))
         return v;
-    return near == SMALLER ? half : nearer_zero(half);
+    return beside(half, near == LARGER || (near == IS_HALF && odd));
 }
 
 bool predicted_levels(const struct second_channel *channel, struct second_read_row s, int64_t *Q, int64_t *F)

@@ -31,8 +31,8 @@ make-uneven-after =
     (filter-uneven-before .u)
     (pos 6084 ∷ minus 32153 ∷ pos 7086 ∷ pos 59821 ∷ minus 14833 ∷ pos 3281 ∷ minus 23903 ∷ pos 6309 ∷
     pos 44156 ∷ [])
-    (thrice (minus 4492178354 ∷ minus 4503745099 ∷ pos 12335722716 ∷ pos 8708077714 ∷ minus 1878214755 ∷
-    minus 3419647930 ∷ minus 2930424365 ∷ pos 9319554084 ∷ []))
+    (thrice (minus 4492178354 ∷ minus 4503745099 ∷ pos 12335722716 ∷ pos 8708077713 ∷ minus 1878214754 ∷
+    minus 3419647930 ∷ minus 2930424364 ∷ pos 9319554084 ∷ []))
     (thrice (pos 281362 ∷ pos 97935 ∷ minus 109698 ∷ minus 87065 ∷ pos 127120 ∷ minus 217041 ∷ pos 49729 ∷
     pos 333363 ∷ minus 221382 ∷ []))
 
@@ -358,8 +358,8 @@ step-by-hand-after =
     (replicate 8 (pos 1000))
     (minus 2 ∷ pos 40 ∷ pos 2 ∷ pos 11920 ∷ pos 2 ∷ pos 40 ∷ minus 2 ∷ pos 0 ∷ [])
     (minus 44 ∷ minus 227 ∷ minus 2243 ∷ pos 0 ∷ pos 2244 ∷ pos 230 ∷ pos 56 ∷ pos 10 ∷ [])
-    (minus 8 ∷ pos 488 ∷ minus 3904 ∷ pos 0 ∷ pos 3904 ∷ minus 488 ∷ pos 7 ∷ minus 1 ∷ [])
-    (onto (pos 79807268 ∷ minus 1505934908 ∷ minus 1597243769 ∷ pos 1597408731 ∷ pos 1507041570 ∷
+    (minus 8 ∷ pos 488 ∷ minus 3904 ∷ pos 0 ∷ pos 3904 ∷ minus 488 ∷ pos 6 ∷ minus 1 ∷ [])
+    (onto (pos 79807267 ∷ minus 1505934908 ∷ minus 1597243769 ∷ pos 1597408731 ∷ pos 1507041570 ∷
     minus 76774261 ∷ pos 15801000 ∷ [])
     (make-by-hand-after .Q))
     (onto (minus 306 ∷ pos 9720 ∷ minus 77692 ∷ pos 0 ∷ pos 77692 ∷ minus 9718 ∷ pos 260 ∷ minus 47 ∷ [])
@@ -517,7 +517,7 @@ run-complete-after =
     (minus 3921 ∷ minus 3614 ∷ pos 1233 ∷ pos 1075 ∷ minus 4396 ∷ pos 3060 ∷ pos 709 ∷ minus 5246 ∷ [])
     (minus 4268 ∷ minus 3761 ∷ pos 1417 ∷ pos 1268 ∷ minus 4825 ∷ pos 3415 ∷ pos 838 ∷ minus 5925 ∷ [])
     (onto (minus 1507455897 ∷ minus 326338225 ∷ pos 644617181 ∷ minus 649562273 ∷ minus 213691671 ∷
-    pos 941794160 ∷ minus 1159418213 ∷ [])
+    pos 941794159 ∷ minus 1159418213 ∷ [])
     (run-paused-after .Q))
     (onto (minus 52245 ∷ minus 72216 ∷ pos 33460 ∷ pos 23438 ∷ minus 72948 ∷ pos 68046 ∷ minus 1412 ∷
     minus 112377 ∷ [])
