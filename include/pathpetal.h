@@ -90,9 +90,10 @@ enum pathpetal_reason {
     PATHPETAL_BAD_POURED = 37        /* a poured amount is not within 1,000,000 um */
 };
 
-/* The rule that all calls of the library that is linked follow: 2, and no answer as above. It grows whenever a call
-   comes to leave other numbers in a file for the same input, so that a host can tell what it may go on with. Rule 1 was
-   that before the start ladder, the time weights of a first and a second step; its library has no such function. */
+/* The rule that all calls of the library that is linked follow: 3, and no answer as above. It grows whenever a call
+   comes to leave other numbers in a file for the same input, so that a host can tell what it may go on with. By rule 2 a
+   half was rounded away from zero, and not to the even number. Rule 1 was that before the start ladder, the time weights
+   of a first and a second step; its library has no such function. */
 uint64_t pathpetal_rule(void);
 
 /* Makes the file of a new channel, with no step accepted, in the file_len bytes at file: exactly

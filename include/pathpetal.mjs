@@ -292,9 +292,10 @@ export class Pathpetal {
     }
 
     /**
-     * The rule that all calls of the WebAssembly file follow: 2. It grows whenever a call comes to leave other numbers in
-     * a file for the same input, so that a page can tell what it may go on with. Rule 1 was that before the start ladder,
-     * the time weights of a first and a second step; its file is not taken by this module.
+     * The rule that all calls of the WebAssembly file follow: 3. It grows whenever a call comes to leave other numbers in
+     * a file for the same input, so that a page can tell what it may go on with. By rule 2 a half was rounded away from
+     * zero, and not to the even number. Rule 1 was that before the start ladder, the time weights of a first and a second
+     * step; its WebAssembly file is not taken by this module.
      * @returns {number}
      */
     get rule() {

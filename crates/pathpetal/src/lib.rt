@@ -10,7 +10,7 @@ ghost use Rattle.gauge.specs.OnGauges.{placeFile, feedFile, readState};
 pub extern "C" fn pathpetal_rule() -> u64
     ensures { λ r. ⌜ r ≡ ruleNumber ⌝ }
 {
-    2
+    3
 }
 
 // Makes the file of a channel with no step accepted.
