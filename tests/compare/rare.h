@@ -76,8 +76,8 @@ static void any_unweighed(struct call *c)
 }
 
 /* A step of nearly still water in which every W and quotient of V is exactly a half in the prediction, and about half
-   of them are in the first correction; by the first row of weights each is meant to be one in the one or in the other.
-   Levels that are all one unit move 1. */
+   of them are in the first correction; by the first row of weights about half are in the prediction, and of the others
+   most are in the first correction. Levels that are all one unit move 1. */
 static bool moved_halves(struct call *c)
 {
     static const int64_t whole[RUNGS] = {0, 12, 8}; /* so many units, weighed as the trial's, move a whole number */
