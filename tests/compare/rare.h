@@ -55,15 +55,14 @@ static void put_levels(struct call *c, int row, size_t j, int64_t q, int64_t s)
 }
 
 /* By the first row of weights a correction is of the newest level and the trial's t alone, 12 of each over 24. Moves
-   the newest level of entry j, which is an odd number of half units, to where that is a half, if it moves as much as
-   before in the prediction: the even one of its neighbours. */
+   the newest level of entry j, so many whole units, to where that is a half, if it moves as much as before in the
+   prediction. */
 static void move_newest(struct call *c, int row, size_t j, int64_t unit, int64_t t)
 {
-    int64_t *q = &c->row[row][j], W = *q / unit + *q / unit % 2;
-    int64_t off = (unit - t - W * unit) % (2 * unit);
+    int64_t *q = &c->row[row][j], off = (unit - t - *q) % (2 * unit);
     off += off < -unit ? 2 * unit : off > unit ? -2 * unit : 0;
     if (2 * llabs(off) < unit)
-        *q = W * unit + off;
+        *q += off;
 }
 
 /* Anything that is allowed, in the levels whose weight is 0. */
@@ -77,13 +76,14 @@ static void any_unweighed(struct call *c)
 }
 
 /* A step of nearly still water in which every W and quotient of V is exactly a half in the prediction, and about half
-   of them are in the first correction; by the first row of weights about a quarter are halves there instead. Levels
-   that are all one unit move 1. */
+   of them are in the first correction; by the first row of weights about half are in the prediction, and of the others
+   most are in the first correction. Levels that are all one unit move 1. */
 static bool moved_halves(struct call *c)
 {
     static const int64_t whole[RUNGS] = {0, 12, 8}; /* so many units, weighed as the trial's, move a whole number */
     int64_t depth = 1 + magnitude(19999), still = magnitude(19000000), noise = magnitude(30);
     int64_t T = PICK(10, 20, 25, 50, 100), unit[ROWS], trial[ROWS][10];
+    bool late[ROWS][10]; /* a half in the first correction */
     lengths(c, (size_t)between(8, 10));
     c->X = (uint64_t)(10 + magnitude(4990)), c->T = (uint64_t)T, c->wanted = 5, c->accepted = open_start(5);
     unit[ROW_Q] = 1000000 * (int64_t)c->X / T, unit[ROW_F] = 1000 / T;
@@ -94,19 +94,22 @@ static bool moved_halves(struct call *c)
         c->row[ROW_V][j] = between(-noise, noise);
     }
     for (int i = ROW_Q; i <= ROW_F; i++)
-        for (size_t j = 0; j < c->len[i] / 3; j++)
-            put_levels(c, i, j, unit[i] * between(-3, 2) + unit[i] / 2, 0);
+        for (size_t j = 0; j < c->len[i] / 3; j++) {
+            late[i][j] = one_in(2);
+            if (late[i][j] && rung_of(c) == 0)
+                put_levels(c, i, j, unit[i] * between(-3, 3), 0);
+            else
+                put_levels(c, i, j, unit[i] * between(-3, 2) + unit[i] / 2, 0);
+        }
     struct second_channel channel = channel_of(c);
     if (!predicted_levels(&channel, poured_of(c), trial[ROW_Q], trial[ROW_F]))
         return false;
     for (int i = ROW_Q; i <= ROW_F; i++)
         for (size_t j = 0; j < c->len[i] / 3; j++) {
             int64_t q = c->row[i][j], more = whole[rung_of(c)] * unit[i] * between(-1, 1);
-            if (one_in(2))
-                continue;
-            if (rung_of(c) == 0)
+            if (late[i][j] && rung_of(c) == 0)
                 move_newest(c, i, j, unit[i], trial[i][j]);
-            else
+            else if (late[i][j])
                 put_levels(c, i, j, q, q + more - trial[i][j]);
         }
     any_unweighed(c);

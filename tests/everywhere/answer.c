@@ -75,8 +75,8 @@ int main(int argc, char **argv)
         return 2;
     }
 #ifndef SECOND
-    if (pathpetal_rule() != 2) {
-        fputs("the library follows another rule than 2\n", stderr);
+    if (pathpetal_rule() != 3) {
+        fputs("the library follows another rule than 3\n", stderr);
         return 1;
     }
 #endif

@@ -1,12 +1,13 @@
 /* calls write CALLS: draws calls of pathpetal.h from one seed and writes them to the file CALLS. What each would
    answer is asked of the second program, so that accepted calls, each refusal at each stage, the first, middle and last
-   places of those that have one, each k from 1 to 10, and each count of accepted steps that the weights of a step hang
-   on all have their share. The calls of gauges come last.
+   places of those that have one, each k from 1 to 10, each count of accepted steps that the weights of a step hang on,
+   and an exact half at each place that rounds, of both signs and parities, all have their share. The calls of gauges
+   come last.
    calls table CALLS ANSWERS: prints how often each answer occurred; fails if one that is known to occur did not, or if
    a call touched a byte that is not its own.
    calls differ CALLS ANSWERS OTHERS..: prints the first calls that one of the OTHERS answers differently, and last 'N
    passed, M failed', by calls. */
-#include "../compare/scenes.h"
+#include "../compare/rare.h"
 #include "../../include/pathpetal.h"
 #include "by_second.h"
 #include "record.h"
@@ -16,11 +17,15 @@
 enum { REASONS = 38, STAGES = 11, EACH = 5000, MOST_DRAWN = 4000000 };
 static const char *const names[DO_KINDS] = {"make", "step", "filter", "check", "run", "place", "feed", "read"};
 
-enum { V_HALVES, FLUX_HALVES, U_HALVES, THIN, FAULTS, EDGE, VIOLENT, ANY, DRAWN, WATCHED, ENDS, GAUGE_FAULTS, SCENES };
+enum { V_HALVES, FLUX_HALVES, U_HALVES, MOVED_HALVES, FLOW_HALVES, FILTERED_HALVES, THIN, FAULTS, EDGE, VIOLENT, ANY, DRAWN,
+       WATCHED, ENDS, GAUGE_FAULTS, SCENES };
 static const char *const scenes[SCENES] = {
     "every inner V of make is exactly a half",
     "dispersive parts are exactly halves",
     "every u of a step is exactly a half",
+    "what moves in a step is exactly a half",
+    "plain parts or accelerations are exactly halves",
+    "what a filter pass rounds is exactly a half",
     "sides of the solve fall below the least normal float",
     "several faults at once, so that their order decides",
     "a flux just out of range",
@@ -32,11 +37,11 @@ static const char *const scenes[SCENES] = {
     "several faults of a file and its gauges at once",
 };
 
-enum { AT_FIRST, BETWEEN, AT_LAST, PLACES };
-static const char *const places[PLACES] = {"the first place", "a place between", "the last place"};
+enum { AT_FIRST, BETWEEN, AT_LAST, WHERES };
+static const char *const wheres[WHERES] = {"the first place", "a place between", "the last place"};
 
 /* How often each answer occurred, of a step by its k too, of a refusal by where its place is, and each scene. */
-static long total[DO_KINDS], answered[DO_KINDS][REASONS][STAGES], settled[STAGES], placed[DO_KINDS][REASONS][PLACES],
+static long total[DO_KINDS], answered[DO_KINDS][REASONS][STAGES], settled[STAGES], placed[DO_KINDS][REASONS][WHERES],
             shown[SCENES][DO_KINDS];
 
 /* How often 12 and 14 were of the gauges and not of the file, and a gauge got each of the eight places. */
@@ -46,6 +51,15 @@ static long of_gauges[DO_KINDS][2], got[GAUGES + 1];
 /* How often a flux and an acceleration were refused in one level while an older one has a fault at a lower place; and
    in a step or a run whose next step has no weight for the level. */
 static long older_lower[2], unweighed[2];
+
+/* How many calls, up to ENOUGH, each tie decides: they end otherwise when it is turned (tests/compare/ties.h). */
+enum { ENOUGH = 20 };
+static long decided[TIES];
+static const char *const rounding[PLACES] = {
+    "W predicted", "W corrected", "V's quotient predicted", "V's quotient corrected", "G of the filter",
+    "V of the filter", "plain part", "F", "dispersive part", "u", "V of make",
+};
+static const char *const sides[4] = {"above zero, even", "above zero, odd", "below zero, even", "below zero, odd"};
 
 /* The count of accepted steps that a step or a run starts from. One whose lowest byte alone is 0 or 1 is a later one
    too, and the last before the wanted is one of the others. How often it took a step, and was refused at a stage. */
@@ -216,11 +230,11 @@ static long missing(bool say, unsigned kinds)
                         printf("%s never answered %u at stage %u\n", names[kind], number, stage);
                 }
         for (unsigned number = 0; number < REASONS; number++)
-            for (unsigned i = 0; i < PLACES && has_place(number) && due(kind, number, 0); i++)
+            for (unsigned i = 0; i < WHERES && has_place(number) && due(kind, number, 0); i++)
                 if (!placed[kind][number][i]) {
                     n++;
                     if (say)
-                        printf("%s never answered %u with %s\n", names[kind], number, places[i]);
+                        printf("%s never answered %u with %s\n", names[kind], number, wheres[i]);
                 }
         for (int start = 0; start < STARTS && (kind == DO_STEP || kind == DO_RUN); start++)
             for (int refused = 0; refused < 2; refused++)
@@ -261,6 +275,13 @@ static long missing(bool say, unsigned kinds)
             if (say)
                 printf("no step settled at correction %d\n", k);
         }
+    for (int place = 0; place < PLACES; place++)
+        for (int side = 0; side < 4; side++)
+            if (decided[tie_of(place, IS_HALF, side / 2, side % 2)] < 5) {
+                n++;
+                if (say)
+                    printf("calls were seldom decided by a half of %s, %s\n", rounding[place], sides[side]);
+            }
     return n;
 }
 
@@ -293,6 +314,23 @@ static uint64_t by_second(struct record *c)
     }
 }
 
+/* Counts the ties that decide a call. The string that a call may change is all that it leaves. */
+static void count_ties(const struct record *c)
+{
+    static struct record one, other;
+    const struct string *left = &one.string[changed_by(c->kind)], *otherwise = &other.string[changed_by(c->kind)];
+    long here[TIES];
+    one = *c;
+    memset(ties, 0, sizeof ties);
+    uint64_t answer = by_second(&one);
+    memcpy(here, ties, sizeof here);
+    for (turned = 0; turned < TIES; turned++)
+        if (here[turned] && decided[turned] < ENOUGH) {
+            other = *c;
+            decided[turned] += by_second(&other) != answer || memcmp(left->at, otherwise->at, left->len);
+        }
+}
+
 /* Whether a call with this answer is to be kept: a share for each. */
 static bool share_left(const struct record *c, uint64_t answer)
 {
@@ -321,8 +359,10 @@ static uint64_t offer(unsigned kind)
     before = r;
     uint64_t answer = by_second(&r);
     drawn++;
-    if (share_left(&before, answer) && counted(&before, answer))
+    if (share_left(&before, answer) && counted(&before, answer)) {
         put_record(out, &before);
+        count_ties(&before);
+    }
     return pathpetal_number(answer);
 }
 
@@ -480,6 +520,17 @@ static void from_file(const struct call *c, unsigned scene)
     go_on(c);
 }
 
+/* One call on the file of a channel. */
+static void once(const struct call *c, unsigned scene, unsigned kind)
+{
+    as_file(c);
+    r.scene = scene;
+    if (kind == DO_STEP)
+        pour(c->row[ROW_s]);
+    r.number[0] = kind == DO_RUN ? most() : 0;
+    offer(kind);
+}
+
 /* Shallow water in wide cells that moves in the first cell alone. */
 static void thin(struct call *c)
 {
@@ -593,11 +644,28 @@ static void with_faults(struct call *c)
 
 static void one_scene(struct call *c)
 {
-    switch (draw() % 19) {
+    switch (draw() % 23) {
     case 18: with_faults(c); break;
-    case 0: reduced_halves(c); from_make(c, V_HALVES); break;
+    case 19:
+        if (moved_halves(c))
+            once(c, MOVED_HALVES, (unsigned)PICK(DO_STEP, DO_STEP, DO_RUN));
+        break;
+    case 20: flow_halves(c); from_make(c, FLOW_HALVES); break;
+    case 21: filtered_halves(c); once(c, FILTERED_HALVES, DO_FILTER); break;
+    case 22: if (at_the_brink(c)) from_file(c, EDGE); break;
+    case 0:
+        if (one_in(2))
+            reduced_halves(c);
+        else
+            made_halves(c);
+        from_make(c, V_HALVES);
+        break;
     case 1:
-        flux_halves(c);
+        if (one_in(2))
+            flux_halves(c);
+        else
+            while (!dispersive_halves(c))
+                ;
         c->wanted = (uint64_t)between(1, 4);
         memset(c->row[ROW_s], 0, sizeof c->row[ROW_s]);
         from_make(c, FLUX_HALVES);
@@ -788,6 +856,7 @@ static int table(const char *calls, const char *answers)
         get_reply(of, &reply);
         if (!counted(&r, reply.answer) || !reply.kept)
             stray++;
+        count_ties(&r);
     }
     for (unsigned kind = 0; kind < DO_KINDS; kind++) {
         printf("%-7s %6ld calls", names[kind], total[kind]);
@@ -822,9 +891,9 @@ static int table(const char *calls, const char *answers)
                    started[kind][start][1]);
     printf("places of each refusal that has one, over all calls: the first, between, the last\n");
     for (unsigned number = 0; number < REASONS; number++) {
-        long of[PLACES] = {0};
+        long of[WHERES] = {0};
         for (unsigned kind = 0; kind < DO_KINDS; kind++)
-            for (unsigned i = 0; i < PLACES; i++)
+            for (unsigned i = 0; i < WHERES; i++)
                 of[i] += placed[kind][number][i];
         if (has_place(number))
             printf("%2u: %ld %ld %ld\n", number, of[AT_FIRST], of[BETWEEN], of[AT_LAST]);
@@ -838,6 +907,13 @@ static int table(const char *calls, const char *answers)
     for (int i = 1; i <= GAUGES; i++)
         printf(" %ld", got[i]);
     printf("\n");
+    printf("calls, up to %d, that a half decides: above zero, even and odd; below zero, even and odd\n", ENOUGH);
+    for (int place = 0; place < PLACES; place++) {
+        printf("%s:", rounding[place]);
+        for (int side = 0; side < 4; side++)
+            printf(" %ld", decided[tie_of(place, IS_HALF, side / 2, side % 2)]);
+        printf("\n");
+    }
     for (unsigned i = 0; i < SCENES; i++) {
         printf("%s:", scenes[i]);
         for (unsigned kind = 0; kind < DO_KINDS; kind++)

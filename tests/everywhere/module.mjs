@@ -49,7 +49,7 @@ await test('the words are those of pathpetal.h', () => {
 });
 
 await test('the rule is the one that the file follows, and that of which pathpetal.h speaks', () => {
-    assert.equal(pathpetal.rule, 2);
+    assert.equal(pathpetal.rule, 3);
     assert.match(readFileSync(header, 'utf8'), new RegExp(`The rule that all calls of the library that is linked follow: ${pathpetal.rule},`));
     const exports = { memory: new WebAssembly.Memory({ initial: 1 }), ...Object.fromEntries(names.map((name) => [name, () => 7n])) };
     assert.equal(new Pathpetal({ exports }).rule, 7);
@@ -157,6 +157,16 @@ await test('the first three steps, one by one and in a run', () => {
     }
     assert.equal(pathpetal.run(ran).count, 3);
     assert.deepEqual(ran, file);
+});
+
+await test('a half goes to the even number: a filter pass of 128 in cell 8', () => {
+    for (const sign of [1, -1]) {
+        const heights = row(Array.from({ length: 16 }, (_, j) => (j === 7 ? sign * 128 : 0)));
+        const file = pathpetal.make({ ...start(16), heights });
+        pathpetal.filter(file);
+        const due = [0, 0, 0, 0, 4, -14, 28, 92, 28, -14, 4, 0, 0, 0, 0, 0].map((n) => (n === 0 ? 0 : sign * n));
+        assert.deepEqual([...pathpetal.read(file).heights], due);
+    }
 });
 
 await test('what is refused for a value names its cell or face', () => {

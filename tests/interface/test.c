@@ -1046,7 +1046,7 @@ static void known_places(void)
 }
 
 /* Water that slopes from wall to wall, at rest: its first steps, and a run of as many, from the same file. Other numbers
-   than these would be another rule's, which then has another number. */
+   than these, or than those of the filter passes below, would be another rule's, which then has another number. */
 static void known_first_steps(void)
 {
     static const int32_t first[3] = {15971, 15884, 15742};
@@ -1056,7 +1056,7 @@ static void known_first_steps(void)
     for (size_t j = 0; j < 16; j++)
         s.depths[j] = 1000, s.heights[j] = 16000 - 1000 * (int32_t)j, s.velocities[j] = 0, s.poured[j] = 0;
     set_scene(&c, &s);
-    expect(pathpetal_rule() == 2, "the rule's number");
+    expect(pathpetal_rule() == 3, "the rule's number");
     expect(is(compare(MAKE, &c), 0, 0, 0), "a slope of 16 cells is made");
     set_file(&ran, &c);
     for (int i = 0; i < 3; i++) {
@@ -1068,12 +1068,32 @@ static void known_first_steps(void)
     expect(!memcmp(ran.string[BYTES].at, c.string[BYTES].at, c.string[BYTES].len), "it leaves the same file");
 }
 
+/* Still water with one height in cell 8, of 16 cells, after a filter pass: cells 4 to 12, and 0 in all others. */
+static void known_filter(int32_t height, const int32_t *due, const char *what)
+{
+    static struct call c;
+    bool same = true;
+    even(&c, 16, 1000, 0, 10);
+    put(c.string[HEIGHTS].at + 28, (uint64_t)height, 4);
+    expect(is(compare(MAKE, &c), 0, 0, 0) && is(compare(FILTER, &c), 0, 0, 0), what);
+    for (size_t j = 0; j < 16; j++)
+        same = same && pathpetal_height_um(c.string[BYTES].at, j) == (j >= 3 && j < 12 ? due[j - 3] : 0);
+    expect(same, what);
+}
+
+/* Marked case 10; and half of it, where a half goes to the even number at every face: away from zero it would be -1, 5,
+   -15, 29, 92, 29, -15, 5, -1. */
+static void known_filters(void)
+{
+    known_filter(256, (const int32_t[]){-1, 8, -28, 56, 186, 56, -28, 8, -1}, "marked case 10");
+    known_filter(128, (const int32_t[]){0, 4, -14, 28, 92, 28, -14, 4, 0}, "128 in cell 8, filtered");
+    known_filter(-128, (const int32_t[]){0, -4, 14, -28, -92, -28, 14, -4, 0}, "-128 in cell 8, filtered");
+}
+
 static void known(void)
 {
     static struct call c;
-    static const int32_t filtered[16] = {0, 0, 0, -1, 8, -28, 56, 186, 56, -28, 8, -1, 0, 0, 0, 0};
     uint8_t *file = c.string[BYTES].at;
-    bool same = true;
     even(&c, 8, 1000, 7, 10);
     expect(is(compare(MAKE, &c), 0, 0, 0), "a channel of still water is made");
     expect(c.string[BYTES].len == pathpetal_length(8) && pathpetal_length(8) == 536, "8 cells are 536 bytes");
@@ -1103,12 +1123,6 @@ static void known(void)
         uint64_t answer = compare(MAKE, &c);
         expect(d == 1941 ? is(answer, 0, 0, 0) : is_at(answer, PATHPETAL_DOMINANCE, 0, 5, 0), "marked case 8");
     }
-    even(&c, 16, 1000, 0, 10);
-    put(c.string[HEIGHTS].at + 28, 256, 4);
-    expect(is(compare(MAKE, &c), 0, 0, 0) && is(compare(FILTER, &c), 0, 0, 0), "marked case 10 is filtered");
-    for (size_t j = 0; j < 16; j++)
-        same = same && pathpetal_height_um(file, j) == filtered[j];
-    expect(same, "marked case 10");
     expect(pathpetal_signed((const uint8_t *)"\xff\xff\xff\xff") == -1 &&
            pathpetal_signed((const uint8_t *)"\0\0\0\x80") == INT32_MIN, "signed numbers are read as such");
 }
@@ -1342,6 +1356,7 @@ int main(void)
     seed(20260101);
     readers();
     known();
+    known_filters();
     known_places();
     known_first_steps();
     nothing_lent();
