@@ -2,7 +2,7 @@
 
        step,time_s,cell_10_um,cell_60_um
        # origin 6c0f... at step 0
-       # rule 2
+       # rule 3
        # filter-every 50
        # pour 8e1b...
        # every 10 from step 0

@@ -1,7 +1,7 @@
 """What the host's files hold, worked out from docs/HOST.md alone: channels, records, what stands beside a channel."""
 import hashlib, re, struct
 
-RULE = 2  # that steps are taken by; what says none is of rule 1
+RULE = 3  # that steps are taken by; what says none is of rule 1
 
 
 def counts(data):

@@ -15,8 +15,8 @@ UNKNOWN = "nothing beside it says by which rule and under which options its {} s
 
 
 def rules(begin, end, record):
-    for gauged in (True, False):
-        earlier = Earlier(begin, gauged)
+    for rule, gauged in ((RULE - 1, True), (1, True), (1, False)):
+        earlier = Earlier(begin, rule, gauged)
         left_by_earlier(begin, end, record, earlier)
         start_of_earlier(begin, end, record, earlier)
     said_beside(begin, end, record)
@@ -44,10 +44,11 @@ class Earlier:
     """What an earlier program has left of the run of COMMAND, with gauges or as the earliest ones did without: by its
     rule it came to other numbers, here to those of a run without filter passes."""
 
-    def __init__(self, begin, gauged):
+    def __init__(self, begin, rule, gauged):
         go(*(word for word in COMMAND if word not in ("--filter-every", 7)))
-        run = (begin, 7, POUR, 1)
-        self.name = "with gauges" if gauged else "without gauges"
+        run = (begin, 7, POUR, rule)
+        self.rule = rule
+        self.name = f"rule {rule}, {'with' if gauged else 'without'} gauges"
         self.end, self.half, there = read("v.end"), read("v.check"), read("v.csv")
         rows = record_head(STAFFS, run, 5) + b"".join(record_rows(there))
         waves = b"".join(re.findall(b"^# cell .*\n", there, re.M)) if gauged else b""
@@ -75,9 +76,10 @@ def left_by_earlier(begin, end, record, earlier):
     go("check", "--staff", "v.csv", "--complete", tells="complete: all 300 steps accepted")
     there = "{}: is there already, is of another run ({}) and is not written over; give another name for {}, or " \
         "--replace"
-    words = {"v.end": there.format("v.end", differs(1), "END"),
-             "v.check": there.format("v.check", differs(1), "the checkpoint"),
-             "v.csv.open": f"v.csv.open: {differs(1)}\npathpetal: it is left from another run: remove it, or record "
+    other_rule = differs(earlier.rule)
+    words = {"v.end": there.format("v.end", other_rule, "END"),
+             "v.check": there.format("v.check", other_rule, "the checkpoint"),
+             "v.csv.open": f"v.csv.open: {other_rule}\npathpetal: it is left from another run: remove it, or record "
                  "under another name",
              "v.csv": NAMED}
     for names in itertools.chain.from_iterable(itertools.combinations(NAMES, k) for k in range(1, 5)):
@@ -96,10 +98,10 @@ def left_by_earlier(begin, end, record, earlier):
         # with --replace: as in one go
         earlier.leave(*names)
         _, err = go(*COMMAND, "--replace", name=f"{names}, --replace")
-        over = "".join(f"pathpetal: {name}: is of another run ({differs(1)}); with --replace it is written over\n"
+        over = "".join(f"pathpetal: {name}: is of another run ({other_rule}); with --replace it is written over\n"
             for name in ("v.end", "v.check") if name in names)
         if "v.csv.open" in names:
-            over += f"pathpetal: v.csv.open: is left from another run ({differs(1)}), and is written over\n"
+            over += f"pathpetal: v.csv.open: is left from another run ({other_rule}), and is written over\n"
         check(err == over, f"{names}, --replace: {err!r}")
         check(read("v.end") == end and read("v.csv") == record and not os.path.exists("v.csv.open"),
             f"{names}, --replace: other bytes")
@@ -126,7 +128,7 @@ def left_by_earlier(begin, end, record, earlier):
     earlier.leave("v.end")
     for given, more in (((), "; --filter-every 7 there, none here; --pour a table there, none here"),
                         (NO_STAFFS[:2], "; --pour a table there, none here")):
-        go("run", "start.channel", "-o", "v.end", *given, status=REFUSED, says=re.escape(f"({differs(1)}{more})"))
+        go("run", "start.channel", "-o", "v.end", *given, status=REFUSED, says=re.escape(f"({other_rule}{more})"))
     forget(*FILES)
 
 
@@ -137,17 +139,17 @@ def start_of_earlier(begin, end, record, earlier):
         for words in (NO_STAFFS, (*OPTIONS, "--record", "v.csv"), (*OPTIONS, "--record", "w.csv")):
             for replace in ((), ("--replace",)):
                 out, err = go("run", names[0], "-o", "w.end", *words, *replace, status=REFUSED)
-                check(err == taken_by(1, names[0]) and out == "", f"{names}: {err!r}, {out!r}")
+                check(err == taken_by(earlier.rule, names[0]) and out == "", f"{names}: {err!r}, {out!r}")
                 check(listing() == before, f"{names}: something was written or changed")
         _, err = go("run", names[0], "-o", "w.end", "--filter-every", 7, status=REFUSED)
-        check(err == taken_by(1, names[0], "; --pour a table there, none here"), f"{names}: {err!r}")
+        check(err == taken_by(earlier.rule, names[0], "; --pour a table there, none here"), f"{names}: {err!r}")
     # a complete one whose copy stands at END: that is not there already either
     earlier.leave("v.end")
     for name, copy in zip(saved("v.end"), saved("w.end")):
         shutil.copy(name, copy)
     before = listing()
     out, err = go("run", "v.end", "-o", "w.end", *NO_STAFFS, status=REFUSED)
-    check(err == taken_by(1, "v.end") and out == "" and listing() == before, f"a complete one: {err!r}, {out!r}")
+    check(err == taken_by(earlier.rule, "v.end") and out == "" and listing() == before, f"a complete one: {err!r}, {out!r}")
     forget(*saved("w.end"))
     # copied under another name it begins a run of its own, by this program's rule
     before = earlier.leave("v.check", "v.csv.open")
@@ -172,7 +174,7 @@ def start_of_earlier(begin, end, record, earlier):
     # a channel from which no step was taken by the earlier rule binds to none
     for channel in (begin, earlier.half):
         write("v.end", channel)
-        write("v.end.run", beside((channel, 7, POUR, 1), (channel, None)))
+        write("v.end.run", beside((channel, 7, POUR, earlier.rule), (channel, None)))
         _, err = go("run", "v.end", "-o", "w.end", *NO_STAFFS)
         steps = counts(channel)[1]
         check(err == (f"pathpetal: v.end: {UNKNOWN.format(steps)}\n" if steps else "") and
@@ -181,12 +183,14 @@ def start_of_earlier(begin, end, record, earlier):
 
 
 # lines in the place of that on the rule, and the rule that they say: 0 where no run has written such lines
-LINES = {"": 1, "rule 3\n": 3, "rule 9999999\n": 9999999, **dict.fromkeys((
-    "rule 1\n", "rule 0\n", "rule 02\n", "rule 03\n", "rule +2\n", "rule -2\n", "rule  2\n", "rule 2 \n", " rule 2\n",
-    "rule\t2\n", "rule 2\r\n", "rule 2.0\n", "rule 0x2\n", "rule 10000000\n", "rule 4294967298\n",
-    "rule 18446744073709551618\n", "rule two\n", "rule\n", "rule \n", "Rule 2\n", "rule2\n", "rules 2\n",
-    "rule 2\nrule 2\n", "rule 2\nrule 3\n", "rule 3\nrule 2\n", "rule 1\nrule 2\n", "rule 2\n\n", "\nrule 2\n",
-    "rule 2 rule 2\n", "# rule 2\n"), 0)}
+LINES = {"": 1, **{f"rule {rule}\n": rule for rule in (*range(2, RULE), RULE + 1, 9999999)}, **dict.fromkeys((
+    "rule 1\n", "rule 0\n", f"rule 0{RULE}\n", f"rule 0{RULE + 1}\n", f"rule +{RULE}\n", f"rule -{RULE}\n",
+    f"rule  {RULE}\n", f"rule {RULE} \n", f" rule {RULE}\n", f"rule\t{RULE}\n", f"rule {RULE}\r\n",
+    f"rule {RULE}.0\n", f"rule 0x{RULE}\n", "rule 10000000\n", f"rule {2**32 + RULE}\n", f"rule {2**64 + RULE}\n",
+    "rule three\n", "rule\n", "rule \n", f"Rule {RULE}\n", f"rule{RULE}\n", f"rules {RULE}\n",
+    f"rule {RULE}\nrule {RULE}\n", f"rule {RULE}\nrule {RULE + 1}\n", f"rule {RULE + 1}\nrule {RULE}\n",
+    f"rule 1\nrule {RULE}\n", f"rule {RULE}\n\n", f"\nrule {RULE}\n", f"rule {RULE} rule {RULE}\n",
+    f"# rule {RULE}\n"), 0)}
 
 
 def said_beside(begin, end, record):
@@ -199,7 +203,7 @@ def said_beside(begin, end, record):
         said = {true.replace(line, text): rule for text, rule in LINES.items()}
         lines = true.replace(line, "").splitlines(True)
         said.update({"".join((*lines[:k], line, *lines[k:])): 0 for k in (0, 1, 3, 4, 5, len(lines))})
-        said[re.sub("gauge .*\n", "", true)] = said[true.replace(line, "rule 2\0\n")] = 0
+        said[re.sub("gauge .*\n", "", true)] = said[true.replace(line, f"rule {RULE}\0\n")] = 0
         for text, rule in said.items():
             forget(*FILES)
             write(path, channel)
@@ -307,7 +311,8 @@ def shown_channels(begin, end):
     first, second, *rest = go("show", "v.end")[0].splitlines(True)
     plain = "".join((first, second, *rest))
     for run, channel, rule in (((begin, 7, POUR), end, None), ((begin, 7, POUR, 1), end, 1),
-                               ((begin, 7, POUR, 3), end, 3), ((begin, 7, POUR, 1), begin, None),
+                               ((begin, 7, POUR, RULE - 1), end, RULE - 1), ((begin, 7, POUR, RULE + 1), end, RULE + 1),
+                               ((begin, 7, POUR, 1), begin, None),
                                ((end, 7, POUR, 1), end, None)):
         write("v.end.run", beside(run, (channel, None)))
         said = told(rule) if rule else ""

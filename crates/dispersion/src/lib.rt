@@ -21,11 +21,11 @@ fn second(n: usize, row: &[i64], j: usize) -> i64
 
 // M of a cell, from its 1000h, x, A and B.
 fn cell_value(h: i64, x: u64, a: i64, b: i64) -> f64
-    requires { ⌜ Cell h x a ⌝ }
+    requires { ⌜ Cell h x a b ⌝ }
     ensures { λ m. ⌜ m ≡ M h x a b ⌝ }
 {
-    let r = round::to_float(h) / round::to_float(x as i64);
-    let k = 154117.0 * round::to_float(h * a) + 186000.0 * round::to_float(b);
+    let r = round::exact(h) / round::exact(x as i64);
+    let k = 154117.0 * round::exact(h * a) + 186000.0 * round::exact(b);
     -(((r * r) * k) / 6000000.0)
 }
 

@@ -2,12 +2,12 @@
 use Prim.Native.Nat.{ℕ, _≤_, _^_}
 use mathlib.Core.Path.{_≡_, refl, _∙_, ap}
 use mathlib.Core.Bool.{true, false}
-use lib.Dec.{T, ltb, lt→ltb, le→leb}
-use lib.IntN.{ℤ, pos, negsuc, natAbs}
+use lib.Dec.{T, ltb}
+use lib.IntN.{ℤ, pos, natAbs}
 use mir.Syntax.{w64}
 use mir.Val.{toZ, ofZ}
 use Rattle.whole.specs.Expr.{back}
-use lib.Ieee.{Float, ofBits, ofInt, inFloat, binary64, lt}
+use lib.Ieee.{Float, ofBits, ofInt, binary64, lt}
 use Rattle.rule.specs.declared.Equation.{Equation}
 use Rattle.rule.specs.declared.Reduced.the-variants.{Kept, NoPivot}
 use Rattle.rule.specs.Floats.{whole, _⊖_, _⊗_, _⊘_}
@@ -28,8 +28,3 @@ no-pivot-is r q s h = rw (← zero-is, h)
 -- what `exact` gave, of the number itself
 pub float-is : (y : Float) (z : ℤ) (k : ℕ) → natAbs z ≤ k → T (ltb k (2 ^ 63)) → y ≡ whole (toZ w64 (ofZ w64 z)) → y ≡ whole z
 float-is y z k h t e = e ∙ ap whole (back z k h t)
-
-pub in-float : (z : ℤ) → natAbs z ≤ 9_007_199_254_740_992 → T (inFloat binary64 z)
-unfolding inFloat
-in-float (pos n) h = le→leb n 9_007_199_254_740_992 h
-in-float (negsuc n) h = lt→ltb n 9_007_199_254_740_992 h

@@ -8,24 +8,16 @@ ghost use Rattle.rule.specs.declared.Reduced.the-variants.{Kept};
 ghost use Rattle.rule.specs.Ranges.{mostReduced};
 ghost use Rattle.coefficients.specs.Ready.{Sized};
 
-// The float of a whole number that is small enough to be a float itself.
-fn exact(n: i64) -> f64
-    requires { ⌜ natAbs n ≤ 9_007_199_254_740_992 ⌝ }
-    ensures { λ r. ⌜ r ≡ whole n ⌝ }
-{
-    n as f64
-}
-
 // Three coefficients and the right side d = w·V.
 pub fn equation(w: u64, r: rule::Coefficients, v: i64) -> rule::Equation
     requires { ⌜ (w ≤ 250_000_000_000_000) × Sized r × (natAbs v ≤ mostReduced) ⌝ }
     ensures { λ e. ⌜ e ≡ equation w r v ⌝ }
 {
     rule::Equation {
-        a: exact(r.a),
-        b: exact(r.b),
-        c: exact(r.c),
-        d: exact(w as i64) * exact(v),
+        a: round::exact(r.a),
+        b: round::exact(r.b),
+        c: round::exact(r.c),
+        d: round::exact(w as i64) * round::exact(v),
     }
 }
 

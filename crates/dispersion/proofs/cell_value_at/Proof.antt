@@ -50,7 +50,7 @@ second-requires-2 c κs = search needs
 cell-value-requires : tie.Need-cell-value-requires
 cell-value-requires c κs =
     let s = c .before .before .before in
-    record { deep = read-small (H s) tt; wide = omega (arith, s .pre .0 .wide); bent = read-small (A (c .before)) tt }
+    record { deep = read-small (H s) tt; wide = omega (arith, s .pre .0 .wide); bent = read-small (A (c .before)) tt; carried = read-small (B c) tt }
 
 returns : tie.Need-returns
 returns c =
