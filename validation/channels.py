@@ -5,10 +5,11 @@ import subprocess
 
 
 class Drive:
-    """The program made from drive.c, kept running; command is how to start it."""
+    """The program made from drive.c, kept running; command is how to start it. It counts the steps that were taken, and
+    the walks that were refused."""
 
     def __init__(self, command):
-        self.steps = 0
+        self.steps = self.refused = 0
         self.process = subprocess.Popen(command, stdin=subprocess.PIPE, stdout=subprocess.PIPE, text=True)
 
     def ask(self, text):
@@ -69,6 +70,7 @@ class Channel:
             line = drive.line()
         walk = Walk(rows, line)
         drive.steps += walk.done
+        drive.refused += walk.number != 0
         return walk
 
     def pour(self, cell, amount):

@@ -354,13 +354,14 @@ def slope(drive, report, full, out):
 
     coarse, fine = first_mode(depth, length, 128)[0], first_mode(depth, length, 256)
     due = TURN / (fine[0] + (fine[0] - coarse) / 3)
-    for N, T, near in ((16, 100, 4e-4), (32, 100, 1e-4), (64, 50, 3e-5)) if full else ((32, 100, 1e-4),):
+    for N, T, near in ((16, 100, 4e-4), (32, 100, 1e-4), (64, 25, 3e-5)) if full else ((32, 100, 1e-4),):
         X = 64000 // N
         run = 256 // N
-        start = whole(40000 * sum(fine[1][j * run:(j + 1) * run]) / run for j in range(N))
+        shape = [sum(fine[1][j * run:(j + 1) * run]) / run for j in range(N)]
+        start = whole(40000 * s for s in shape)
         channel = Channel(drive, X, T, whole(1000 * depth((j + 0.5) * X / 1000) for j in range(N)), start)
         walk = channel.walk(int(6 * 1000 * due / T), 1)
-        angle, _ = turning([start[0]] + [row[0] for row in walk.rows], TURN * T / 1000 / due)
+        angle, _ = turning([part(row, shape) for row in [start] + walk.rows], TURN * T / 1000 / due)
         report.row(f"N {N}, X {X}, T {T}", TURN * T / 1000 / angle, due, "s", near)
 
 

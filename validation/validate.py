@@ -26,6 +26,9 @@ def main():
     print("each line: what, measured, expected, unit, how far apart")
     for check in known.ALL:
         measure(report, check, drive, report, not quick, out)
+    report.head("All of these")
+    report.exact("every run took all its steps, so that none is measured on a part", drive.refused == 0,
+                 f"{drive.refused} refused")
     if not quick:
         for check in limits.ALL:
             measure(report, check, drive, report, out)
