@@ -269,13 +269,28 @@ static void go_on(struct call *c)
     }
 }
 
+/* Calls that halves decide, or floats out of their range by less than one. */
+static void velocities(struct call *c)
+{
+    switch (draw() % 8) {
+    case 0: just_too_fast(c); compare(STEP, c); break;
+    case 1: just_too_large(c); compare(MAKE, c); break;
+    case 2: just_too_dispersive(c); compare(MAKE, c); break;
+    case 3:
+        if (small_halves(c))
+            compare(STEP, c);
+        break;
+    default: velocity_halves(c); compare(STEP, c); break;
+    }
+}
+
 static void one_scene(struct call *c)
 {
     uint64_t from;
     switch (draw() % 22) {
     case 0: reduced_halves(c); compare(MAKE, c); break;
     case 1: flux_halves(c); compare(MAKE, c); break;
-    case 2: velocity_halves(c); compare(STEP, c); break;
+    case 2: velocities(c); break;
     case 3:
         if (!just_too_much(c))
             break;
