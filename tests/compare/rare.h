@@ -144,8 +144,8 @@ static bool small_halves(struct call *c)
     return true;
 }
 
-/* A step that leaves V as it is, with a u above its range by less than a half, or below it by as little: V beside it is
-   so large that one less of it would do. */
+/* A step whose prediction leaves V as it is and has a u out of its range by less than a half, or seldom in it by as
+   little. V is as large as it may be in one cell, and then in the cell beside it just too large, or as it may be. */
 static void just_too_fast(struct call *c)
 {
     static struct call trial;
@@ -156,7 +156,7 @@ static void just_too_fast(struct call *c)
     size_t j = (size_t)between(0, 6);
     for (size_t i = 0; i < c->N; i++)
         c->row[ROW_h][i] = depth, c->row[ROW_V][i] = between(-1000, 1000);
-    for (size_t at = j; at <= j + 1; at++) { /* what is not too much: first of V in the cell, then beside it */
+    for (size_t at = j; at <= j + 1; at++) {
         int64_t *V = &c->row[ROW_V][at], low = at == j ? 0 : *V, high = at == j ? sign * 40000000 : *V + sign * 1000;
         while (llabs(high - low) > 1) {
             *V = (low + high) / 2;
@@ -171,7 +171,7 @@ static void just_too_fast(struct call *c)
     }
 }
 
-/* Making, with a V out of its range by less than a half, or in it by as little. */
+/* Making, with a V out of its range by less than a half, or seldom in it by as little. */
 static void just_too_large(struct call *c)
 {
     int64_t sign = PICK(1, -1), X = between(10, 20), h = between(12 * X, 20 * X), *u = c->row[ROW_u];
@@ -192,8 +192,8 @@ static void just_too_large(struct call *c)
         u[i] *= sign;
 }
 
-/* Making, with a dispersive part of 10^15 + 1/4, or with one that is in its range: known depths and velocities, at
-   either end of the channel. */
+/* Making, with a dispersive part of 10^15 + 1/4, or seldom with one that is in its range: known depths and velocities,
+   at either end of the channel. */
 static void just_too_dispersive(struct call *c)
 {
     static const int64_t h[8] = {19997, 19991, 19993, 19990, 19990, 19990, 19990, 19990}, u[3] = {18919663, 9997957, 800140};
