@@ -269,18 +269,18 @@ static void go_on(struct call *c)
     }
 }
 
-/* Calls that halves decide, or floats out of their range by less than one. */
-static void velocities(struct call *c)
+/* Calls that are decided by a half or less. */
+static void by_little(struct call *c)
 {
-    switch (draw() % 8) {
+    switch (draw() % 5) {
     case 0: just_too_fast(c); compare(STEP, c); break;
     case 1: just_too_large(c); compare(MAKE, c); break;
     case 2: just_too_dispersive(c); compare(MAKE, c); break;
-    case 3:
+    case 3: just_dry(c); compare(STEP, c); break;
+    default:
         if (small_halves(c))
             compare(STEP, c);
         break;
-    default: velocity_halves(c); compare(STEP, c); break;
     }
 }
 
@@ -290,7 +290,7 @@ static void one_scene(struct call *c)
     switch (draw() % 22) {
     case 0: reduced_halves(c); compare(MAKE, c); break;
     case 1: flux_halves(c); compare(MAKE, c); break;
-    case 2: velocities(c); break;
+    case 2: velocity_halves(c); compare(STEP, c); break;
     case 3:
         if (!just_too_much(c))
             break;
@@ -318,7 +318,14 @@ static void one_scene(struct call *c)
         if (moved_halves(c))
             compare(one_in(4) ? RUN : STEP, c);
         break;
-    case 13: filtered_halves(c); compare(FILTER, c); break;
+    case 13:
+        if (one_in(2)) {
+            by_little(c);
+            break;
+        }
+        filtered_halves(c);
+        compare(FILTER, c);
+        break;
     case 14: flow_halves(c); compare(MAKE, c); break;
     case 15: made_halves(c); compare(MAKE, c); break;
     case 16:

@@ -1,5 +1,5 @@
 /* Scenes for what drawn ones hardly meet: a flux that leaves its range late in a step, numbers that are exactly halves
-   before they are rounded, and floats that are out of their range by less than a half. */
+   before they are rounded or lie just beside them, and floats that are out of their range by less than a half. */
 #ifndef RARE_H
 #define RARE_H
 
@@ -169,6 +169,25 @@ static void just_too_fast(struct call *c)
         }
         *V = at == j || one_in(4) ? low : high;
     }
+}
+
+/* A later step whose prediction moves so much through every face that the numerator is beyond 2^53: a half, or so little
+   beside one that a float of the quotient is the half. The wall cell that it leaves falls dry by 1 um, or not, by how
+   that is rounded. 23, -16 and 5 times the levels are 44q + R. */
+static void just_dry(struct call *c)
+{
+    int64_t sign = PICK(1, -1), X = between(1000, 5000), T = PICK(1, 2, 4, 5), unit = 12000000 * X / T;
+    int64_t q = between(800000000000000, 900000000000000), W = 44 * q / unit; /* and a half */
+    int64_t R = W * unit + unit / 2 + between(-2, 2) - 44 * q;
+    const int64_t levels[3] = {q + 7 * R, -q + 10 * R, q};
+    lengths(c, 8);
+    memset(c->row, 0, sizeof c->row);
+    c->X = (uint64_t)X, c->T = (uint64_t)T, c->wanted = 5, c->accepted = (uint64_t)between(RUNGS - 1, 4);
+    for (size_t j = 0; j < c->N; j++)
+        c->row[ROW_h][j] = 20000;
+    for (size_t j = 0; j < c->len[ROW_Q]; j++)
+        c->row[ROW_Q][j] = sign * levels[j / (c->N - 1)];
+    c->row[ROW_e][sign > 0 ? 0 : 7] = 1000 - 20000000 + W;
 }
 
 /* Making, with a V out of its range by less than a half, or seldom in it by as little. */

@@ -26,7 +26,7 @@ static const char *const scenes[SCENES] = {
     "what moves in a step is exactly a half",
     "plain parts or accelerations are exactly halves",
     "what a filter pass rounds is exactly a half",
-    "a float out of its range by less than a half",
+    "out of its range by a half or less",
     "sides of the solve fall below the least normal float",
     "several faults at once, so that their order decides",
     "a flux just out of range",
@@ -645,7 +645,7 @@ static void with_faults(struct call *c)
 
 static void one_scene(struct call *c)
 {
-    switch (draw() % 26) {
+    switch (draw() % 27) {
     case 18: with_faults(c); break;
     case 19:
         if (moved_halves(c))
@@ -657,6 +657,7 @@ static void one_scene(struct call *c)
     case 23: just_too_fast(c); once(c, BY_LESS, DO_STEP); break;
     case 24: just_too_large(c); from_make(c, BY_LESS); break;
     case 25: just_too_dispersive(c); from_make(c, BY_LESS); break;
+    case 26: just_dry(c); once(c, BY_LESS, DO_STEP); break;
     case 0:
         if (one_in(2))
             reduced_halves(c);
