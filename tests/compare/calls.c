@@ -269,6 +269,21 @@ static void go_on(struct call *c)
     }
 }
 
+/* Calls that are decided by a half or less. */
+static void by_little(struct call *c)
+{
+    switch (draw() % 5) {
+    case 0: just_too_fast(c); compare(STEP, c); break;
+    case 1: just_too_large(c); compare(MAKE, c); break;
+    case 2: just_too_dispersive(c); compare(MAKE, c); break;
+    case 3: just_dry(c); compare(STEP, c); break;
+    default:
+        if (small_halves(c))
+            compare(STEP, c);
+        break;
+    }
+}
+
 static void one_scene(struct call *c)
 {
     uint64_t from;
@@ -303,7 +318,14 @@ static void one_scene(struct call *c)
         if (moved_halves(c))
             compare(one_in(4) ? RUN : STEP, c);
         break;
-    case 13: filtered_halves(c); compare(FILTER, c); break;
+    case 13:
+        if (one_in(2)) {
+            by_little(c);
+            break;
+        }
+        filtered_halves(c);
+        compare(FILTER, c);
+        break;
     case 14: flow_halves(c); compare(MAKE, c); break;
     case 15: made_halves(c); compare(MAKE, c); break;
     case 16:

@@ -1,5 +1,5 @@
-/* Scenes for what drawn ones hardly meet: a flux that leaves its range late in a step, and numbers that are exactly
-   halves before they are rounded. */
+/* Scenes for what drawn ones hardly meet: a flux that leaves its range late in a step, numbers that are exactly halves
+   before they are rounded or lie just beside them, and floats that are out of their range by less than a half. */
 #ifndef RARE_H
 #define RARE_H
 
@@ -114,6 +114,119 @@ static bool moved_halves(struct call *c)
         }
     any_unweighed(c);
     return true;
+}
+
+/* A step that leaves V as it is and whose every u is a small half in exact arithmetic: the depth is 1,000 widths, and
+   each second difference of u, mirrored at the walls, is odd. So some floats are the one next to 1/2, to which no half
+   can be added exactly. But for the first row of weights its corrections leave all as it is. */
+static bool small_halves(struct call *c)
+{
+    static const int64_t turn[8] = {1, 1, -1, -1, 1, 1, -1, -1};
+    int64_t twice[10], Q[7], F[8], sign = PICK(1, -1); /* 2u, with a mirrored cell at each end */
+    lengths(c, 8);
+    memset(c->row, 0, sizeof c->row);
+    c->X = (uint64_t)between(10, 20), c->T = (uint64_t)between(1, 100), c->wanted = 9, c->accepted = open_start(9);
+    for (int j = 0; j < 8; j++)
+        twice[j + 1] = 4 * PICK(0, 0, 0, 1, -1) + sign * turn[j];
+    twice[0] = -twice[1];
+    twice[9] = -twice[8];
+    for (int j = 0; j < 8; j++) {
+        c->row[ROW_h][j] = 1000 * (int64_t)c->X;
+        c->row[ROW_V][j] = (twice[j + 1] - 780039 * ((twice[j] - 2 * twice[j + 1] + twice[j + 2]) / 2)) / 2;
+    }
+    struct second_channel channel = channel_of(c);
+    if (!predicted_levels(&channel, poured_of(c), Q, F))
+        return false;
+    for (size_t j = 0; j < 7; j++)
+        put_levels(c, ROW_Q, j, 0, -Q[j]);
+    for (size_t j = 0; j < 8; j++)
+        put_levels(c, ROW_F, j, 0, -F[j]);
+    return true;
+}
+
+/* A step whose prediction leaves V as it is and has a u out of its range by less than a half, or seldom in it by as
+   little. V is as large as it may be in one cell, and then in the cell beside it just too large, or as it may be. */
+static void just_too_fast(struct call *c)
+{
+    static struct call trial;
+    int64_t sign = PICK(1, -1), depth = between(500, 2000);
+    lengths(c, 8);
+    memset(c->row, 0, sizeof c->row);
+    c->X = 5000, c->T = 1, c->wanted = 9, c->accepted = open_start(9);
+    size_t j = (size_t)between(0, 6);
+    for (size_t i = 0; i < c->N; i++)
+        c->row[ROW_h][i] = depth, c->row[ROW_V][i] = between(-1000, 1000);
+    for (size_t at = j; at <= j + 1; at++) {
+        int64_t *V = &c->row[ROW_V][at], low = at == j ? 0 : *V, high = at == j ? sign * 40000000 : *V + sign * 1000;
+        while (llabs(high - low) > 1) {
+            *V = (low + high) / 2;
+            trial = *c;
+            struct answer a = second_does(STEP, &trial);
+            if (a.number == 7 && a.stage == 0)
+                high = *V;
+            else
+                low = *V;
+        }
+        *V = at == j || one_in(4) ? low : high;
+    }
+}
+
+/* A later step whose prediction moves so much through every face that the numerator is beyond 2^53: a half, or so little
+   beside one that a float of the quotient is the half. The wall cell that it leaves falls dry by 1 um, or not, by how
+   that is rounded. 23, -16 and 5 times the levels are 44q + R. */
+static void just_dry(struct call *c)
+{
+    int64_t sign = PICK(1, -1), X = between(1000, 5000), T = PICK(1, 2, 4, 5), unit = 12000000 * X / T;
+    int64_t q = between(800000000000000, 900000000000000), W = 44 * q / unit; /* and a half */
+    int64_t R = W * unit + unit / 2 + between(-2, 2) - 44 * q;
+    const int64_t levels[3] = {q + 7 * R, -q + 10 * R, q};
+    lengths(c, 8);
+    memset(c->row, 0, sizeof c->row);
+    c->X = (uint64_t)X, c->T = (uint64_t)T, c->wanted = 5, c->accepted = (uint64_t)between(RUNGS - 1, 4);
+    for (size_t j = 0; j < c->N; j++)
+        c->row[ROW_h][j] = 20000;
+    for (size_t j = 0; j < c->len[ROW_Q]; j++)
+        c->row[ROW_Q][j] = sign * levels[j / (c->N - 1)];
+    c->row[ROW_e][sign > 0 ? 0 : 7] = 1000 - 20000000 + W;
+}
+
+/* Making, with a V out of its range by less than a half, or seldom in it by as little. */
+static void just_too_large(struct call *c)
+{
+    int64_t sign = PICK(1, -1), X = between(10, 20), h = between(12 * X, 20 * X), *u = c->row[ROW_u];
+    int64_t w = 10000000 * X * X, beside = 3900195 * h * h, b = w + 2 * beside, most = 2000000000 * w, off;
+    bool inside = one_in(4);
+    size_t j = (size_t)between(1, 6);
+    lengths(c, 8);
+    c->X = (uint64_t)X, c->T = 1, c->wanted = 1, c->accepted = 0;
+    for (size_t i = 0; i < c->N; i++)
+        c->row[ROW_h][i] = h, c->row[ROW_e][i] = u[i] = 0;
+    do {
+        u[j - 1] = between(-500000, 500000);
+        u[j + 1] = between(-500000, 500000);
+        u[j] = (most + beside * (u[j - 1] + u[j + 1])) / b + !inside;
+        off = llabs(b * u[j] - beside * (u[j - 1] + u[j + 1]) - most); /* over w */
+    } while (2 * off > w);
+    for (size_t i = 0; i < c->N; i++)
+        u[i] *= sign;
+}
+
+/* Making, with a dispersive part of 10^15 + 1/4, or seldom with one that is in its range: known depths and velocities,
+   at either end of the channel. */
+static void just_too_dispersive(struct call *c)
+{
+    static const int64_t h[8] = {19997, 19991, 19993, 19990, 19990, 19990, 19990, 19990}, u[3] = {18919663, 9997957, 800140};
+    bool last = one_in(2);
+    int64_t sign = PICK(1, -1), less = one_in(4);
+    lengths(c, 8);
+    memset(c->row, 0, sizeof c->row);
+    c->X = 3265, c->T = 1, c->wanted = 1, c->accepted = 0;
+    for (size_t i = 0; i < 8; i++) {
+        size_t j = last ? 7 - i : i;
+        c->row[ROW_h][j] = h[i];
+        c->row[ROW_e][j] = i < 2 ? 1000 - 1000 * h[i] : i == 2 ? 20000000 : 0;
+        c->row[ROW_u][j] = i < 3 ? sign * (u[i] - (i == 0 ? less : 0)) : 0;
+    }
 }
 
 /* A filter pass in which about half of all G and V are exactly halves. */

@@ -17,8 +17,8 @@
 enum { REASONS = 38, STAGES = 11, EACH = 5000, MOST_DRAWN = 4000000 };
 static const char *const names[DO_KINDS] = {"make", "step", "filter", "check", "run", "place", "feed", "read"};
 
-enum { V_HALVES, FLUX_HALVES, U_HALVES, MOVED_HALVES, FLOW_HALVES, FILTERED_HALVES, THIN, FAULTS, EDGE, VIOLENT, ANY, DRAWN,
-       WATCHED, ENDS, GAUGE_FAULTS, SCENES };
+enum { V_HALVES, FLUX_HALVES, U_HALVES, MOVED_HALVES, FLOW_HALVES, FILTERED_HALVES, BY_LESS, THIN, FAULTS, EDGE, VIOLENT,
+       ANY, DRAWN, WATCHED, ENDS, GAUGE_FAULTS, SCENES };
 static const char *const scenes[SCENES] = {
     "every inner V of make is exactly a half",
     "dispersive parts are exactly halves",
@@ -26,6 +26,7 @@ static const char *const scenes[SCENES] = {
     "what moves in a step is exactly a half",
     "plain parts or accelerations are exactly halves",
     "what a filter pass rounds is exactly a half",
+    "out of its range by a half or less",
     "sides of the solve fall below the least normal float",
     "several faults at once, so that their order decides",
     "a flux just out of range",
@@ -644,7 +645,7 @@ static void with_faults(struct call *c)
 
 static void one_scene(struct call *c)
 {
-    switch (draw() % 23) {
+    switch (draw() % 27) {
     case 18: with_faults(c); break;
     case 19:
         if (moved_halves(c))
@@ -653,6 +654,10 @@ static void one_scene(struct call *c)
     case 20: flow_halves(c); from_make(c, FLOW_HALVES); break;
     case 21: filtered_halves(c); once(c, FILTERED_HALVES, DO_FILTER); break;
     case 22: if (at_the_brink(c)) from_file(c, EDGE); break;
+    case 23: just_too_fast(c); once(c, BY_LESS, DO_STEP); break;
+    case 24: just_too_large(c); from_make(c, BY_LESS); break;
+    case 25: just_too_dispersive(c); from_make(c, BY_LESS); break;
+    case 26: just_dry(c); once(c, BY_LESS, DO_STEP); break;
     case 0:
         if (one_in(2))
             reduced_halves(c);
@@ -670,7 +675,13 @@ static void one_scene(struct call *c)
         memset(c->row[ROW_s], 0, sizeof c->row[ROW_s]);
         from_make(c, FLUX_HALVES);
         break;
-    case 2: velocity_halves(c); from_file(c, U_HALVES); break;
+    case 2:
+        if (one_in(3))
+            small_halves(c);
+        else
+            velocity_halves(c);
+        from_file(c, U_HALVES);
+        break;
     case 3: if (one_in(4)) { thin(c); from_file(c, THIN); } break;
     case 4: if (just_too_much(c)) from_make(c, EDGE); break;
     case 5: case 6: case 7: case 8: violent(c); from_make(c, VIOLENT); break;
