@@ -36,7 +36,8 @@ struct waves waves_at(const struct gauges *gauges, size_t staff)
 
 int64_t mean_height(const struct waves *waves)
 {
-    return (2 * waves->sum + waves->count) / (2 * waves->count);
+    int64_t mean = waves->sum / waves->count, rest = waves->sum % waves->count;
+    return mean + (2 * rest + mean % 2 > waves->count);
 }
 
 /* What the groups tell; gives the first refusal, if there is one. */

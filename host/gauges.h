@@ -47,7 +47,8 @@ struct waves {
 };
 struct waves waves_at(const struct gauges *gauges, size_t staff);
 
-/* The mean height of a wave to the nearest um; there must be one. */
+/* The mean height of a wave, rounded as the rule rounds: to the nearest um, a half to the even one. There must be a
+   wave. */
 int64_t mean_height(const struct waves *waves);
 
 /* Places a gauge at each of these cells of a channel, counted from 0; gives the library's answer. */

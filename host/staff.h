@@ -41,7 +41,7 @@ struct standing staffs_standing(const struct staffs *staffs);
    140 steps from step 161 on". */
 struct standing fed_words(const struct staffs *staffs);
 
-/* The complete waves at a staff, in um or, for a picture, in mm: "22 waves, mean 50,836 um, largest 134,130 um", "no
+/* The complete waves at a staff, in um or, for a picture, in mm: "22 waves, mean 50,837 um, largest 134,117 um", "no
    complete wave". */
 struct standing waves_words(const struct waves *waves, bool in_mm);
 

@@ -6,7 +6,7 @@ import subprocess
 
 class Drive:
     """The program made from drive.c, kept running; command is how to start it. It counts the steps that were taken, and
-    the walks that were refused."""
+    the calls and walks that were refused."""
 
     def __init__(self, command):
         self.steps = self.refused = 0
@@ -60,6 +60,7 @@ class Channel:
         rows = [self.h, e, u or [0] * self.N]
         drive.ask(f"make {self.N} {X} {T} {wanted} {accepted}\n" + "\n".join(" ".join(map(str, row)) for row in rows))
         self.made = drive.number("made")
+        drive.refused += self.made != 0
 
     def walk(self, steps, every=0, filter=0):
         drive, rows = self.drive, []
@@ -76,11 +77,17 @@ class Channel:
     def pour(self, cell, amount):
         self.drive.ask(f"pour {cell} {amount}")
         self.drive.steps += 1
-        return self.drive.number("poured")
+        return self.counted("poured")
 
     def filter(self):
         self.drive.ask("filter")
-        return self.drive.number("filtered")
+        return self.counted("filtered")
+
+    def counted(self, word):
+        """The number that a call answers; it is counted if it refuses."""
+        number = self.drive.number(word)
+        self.drive.refused += number != 0
+        return number
 
     def look(self):
         """Heights, velocities and the heights' sum."""

@@ -27,7 +27,7 @@ def main():
     for check in known.ALL:
         measure(report, check, drive, report, not quick, out)
     report.head("All of these")
-    report.exact("every run took all its steps, so that none is measured on a part", drive.refused == 0,
+    report.exact("no call was refused: every run took all its steps", drive.refused == 0,
                  f"{drive.refused} refused")
     if not quick:
         for check in limits.ALL:

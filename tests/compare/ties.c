@@ -16,6 +16,7 @@ __extension__ typedef __int128 wide;
 
 long ties[TIES];
 int turned = TIES;
+const int tie_count = TIES;
 
 /* Counts a tie; whether it is turned. */
 static bool met(enum place place, int near, bool negative, bool odd)

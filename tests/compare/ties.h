@@ -27,6 +27,7 @@ static inline int place_of(int tie) { return tie / (NEARS * 2 * 2); }
 
 /* How often the second program met each since they were last set to 0. */
 extern long ties[TIES];
+extern const int tie_count; /* TIES, for tests/compare/computed */
 
 /* A tie that the second program rounds the other way, or TIES: none. */
 extern int turned;

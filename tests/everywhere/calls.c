@@ -677,7 +677,8 @@ static void one_scene(struct call *c)
         break;
     case 2:
         if (one_in(3))
-            small_halves(c);
+            while (!small_halves(c))
+                ;
         else
             velocity_halves(c);
         from_file(c, U_HALVES);

@@ -1,5 +1,6 @@
 """What the host's files hold, worked out from docs/HOST.md alone: channels, records, what stands beside a channel."""
 import hashlib, re, struct
+from fractions import Fraction
 
 RULE = 3  # that steps are taken by; what says none is of rule 1
 
@@ -133,7 +134,7 @@ def wave_words(cells, fed, step_ms, placed=0):
     text = ""
     for cell, heights in zip(cells, fed):
         gauge = Gauge(heights, placed)
-        mean = (2 * gauge.sum + gauge.waves) // (2 * gauge.waves) if gauge.waves else 0
+        mean = round(Fraction(gauge.sum, gauge.waves)) if gauge.waves else 0
         time = [f"{step * step_ms // 1000}.{step * step_ms % 1000:03}" for step in gauge.noted]
         text += f"  cell {cell}: " + (f"{gauge.waves:,} wave{'s' * (gauge.waves > 1)}, mean {mean:,} um, largest "
             f"{gauge.largest:,} um (from {time[0]} s to {time[1]} s)\n" if gauge.waves else "no complete wave\n")

@@ -1,5 +1,6 @@
 """What the gauges at the staffs counted: against every height of a run, through cuts, and in what is changed."""
 import os, random, re, shutil, signal
+from fractions import Fraction
 import xml.etree.ElementTree as xml
 
 from common import (ALL, INTERRUPTED, NO_STAFFS, OPEN, OPTIONS, POUR, REFUSED, STAFFS, TOP, check, counted, forget, go,
@@ -518,9 +519,19 @@ def in_words(record):
     words = " ".join(xml.fromstring(read("o.svg")).itertext())
     for row in tested.fed:
         gauge = Gauge(row)
-        mean = (2 * gauge.sum + gauge.waves) // (2 * gauge.waves)
+        mean = round(Fraction(gauge.sum, gauge.waves))
         check(f"{gauge.waves} wave{'s' * (gauge.waves > 1)}, mean {mean / 1000:.3f} mm, largest "
             f"{gauge.largest / 1000:.3f} mm" in words, f"the picture's words: {words}")
     check("waves by the proved counts of all 300 steps" in words and "(noted by the host)" in words, words)
     picture(read("o.svg"), tested.fed)
     forget("o.svg")
+    # the mean is rounded as the rule rounds, a half to the even number
+    head, rows, last = lines_of(record)
+    one, *others = last[:last.rindex("# complete")].splitlines(True)
+    for waves, largest, total, mean in ((2, 3, 5, 2), (2, 2, 3, 2), (2, 4, 7, 4), (4, 3, 10, 2), (4, 4, 11, 3), (4, 3, 9, 2)):
+        text = head + "".join(rows) + re.sub(r"\d+ waves, largest \d+ um, sum \d+",
+            f"{waves} waves, largest {largest} um, sum {total}", one) + "".join(others)
+        write("o.csv", text.encode() + record_end(text.encode(), ALL))
+        out = show("o.csv")
+        check(f"cell 3: {waves} waves, mean {mean} um, largest {largest} um" in out, f"{total} over {waves}: {out}")
+        forget("o.csv")

@@ -251,6 +251,7 @@ def said_in_a_record(record):
         out, _ = go("show", "--staff", "v.csv", name=f"show, {text!r}")
         check(out == shown_as("v.csv", record, rule) if rule else
             "not whole: cut or changed after it was written" in out and "rule" not in out, f"show, {text!r}: {out}")
+        check(drawn(("--staff",), "v.csv") == ([told(rule).strip()] if rule else []), f"its picture, {text!r}")
         out, _ = go("check", "--staff", "v.csv", "--complete", status=DONE if rule else REFUSED, name=f"check, {text!r}")
         check(out == (f"v.csv: complete: all 300 steps accepted\n{told(rule)}" if rule else ""), f"check, {text!r}: {out}")
         forget("v.csv")
