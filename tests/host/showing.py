@@ -300,3 +300,10 @@ def worked_example():
         check(os.path.exists(path) and read(path) == read(os.path.join(examples, name)),
             f"examples/{name} is what comes out")
     check("start.channel" in os.listdir(examples), "the start file stands in examples/")
+    # the lines that the page shows of the record and of what stands beside END, with their sums shortened
+    shown = text[text.index("### A record's lines"):text.index("### Signals")]
+    for name, first in (("staff.csv", "    step,time_s"), ("end.channel.run", "    channel ")):
+        there = read(os.path.join("example", name)).decode().splitlines()
+        for line in re.match(r"(?:    .*\n)+", shown[shown.index(first):])[0].splitlines():
+            whole = "[0-9a-f]*".join(map(re.escape, line[4:].split("...")))
+            check(line == "    ..." or any(re.fullmatch(whole, one) for one in there), f"{name} has no line {line}")
