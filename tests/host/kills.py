@@ -75,7 +75,8 @@ def interrupted(options, begin, end, record, wanted, every, where):
     forget(*left)
     stopped = {signal.SIGINT: 0, signal.SIGTERM: 0, signal.SIGHUP: 0}  # runs that each of them has stopped
     early = late = 0
-    for k in range(100):
+    latest = whole * 0.7  # until when a signal is sent, s: less after each that came too late, more after one too early
+    for k in range(300):
         if sum(stopped.values()) >= wanted and all(stopped.values()):
             break
         name, tries, reached = list(stopped)[k % 3], 0, None  # the count in END, where there is one
@@ -83,16 +84,18 @@ def interrupted(options, begin, end, record, wanted, every, where):
             tries += 1
             process = start(*command, *(("--replace",) if k % 4 == 3 else ()))
             if tries <= 3:
-                time.sleep(draw.uniform(0, whole * 0.7))
+                time.sleep(draw.uniform(0, latest))
                 process.send_signal(name)
             _, err = process.communicate(timeout=60)
             check(read("long.channel") == begin, "START has its bytes")
             if process.returncode == -name:
                 early += 1  # before the program began to listen: nothing may have changed
+                latest = min(latest * 1.1, 10)
                 check(os.path.exists("i.channel") == (reached is not None), "ended before it began: END is as it was")
                 continue
             if process.returncode == DONE:
                 late += tries <= 3
+                latest *= 0.9 if tries <= 3 else 1
                 break
             stopped[name] += 1
             check(process.returncode == INTERRUPTED, f"status {process.returncode}: {err!r}")
