@@ -75,7 +75,9 @@ def interrupted(options, begin, end, record, wanted, every, where):
     forget(*left)
     stopped = {signal.SIGINT: 0, signal.SIGTERM: 0, signal.SIGHUP: 0}  # runs that each of them has stopped
     early = late = 0
-    latest = whole * 0.7  # until when a signal is sent, s: less after each that came too late, more after one too early
+    # until when a signal is sent, s; less where a run from its start ended before its signal, more where it did not yet
+    # listen: the machine may be faster or slower now than when `whole` was measured
+    latest = whole * 0.7
     for k in range(300):
         if sum(stopped.values()) >= wanted and all(stopped.values()):
             break
@@ -95,7 +97,7 @@ def interrupted(options, begin, end, record, wanted, every, where):
                 continue
             if process.returncode == DONE:
                 late += tries <= 3
-                latest *= 0.9 if tries <= 3 else 1
+                latest *= 0.9 if tries == 1 else 1
                 break
             stopped[name] += 1
             check(process.returncode == INTERRUPTED, f"status {process.returncode}: {err!r}")
