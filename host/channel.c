@@ -76,10 +76,14 @@ enum status channel_read(const char *path, struct channel *channel)
     answer = pathpetal_check(channel->bytes, channel->length);
     number = pathpetal_number(answer);
     if (number != PATHPETAL_DONE) {
-        struct rows rows = pathpetal_place(answer) ? rows_of(channel->bytes) : (struct rows){0};
+        bool late = number == PATHPETAL_TIME_STEP;
+        struct rows rows = late || pathpetal_place(answer) ? rows_of(channel->bytes) : (struct rows){0};
         say("%s: refused, number %u%s: %s%s", path, number, refusal_place(answer).text, refusal_words(number),
             refusal_found(answer, &rows).text);
-        say("to mend: %s", other_file(channel));
+        if (late)
+            say_time_step(&rows, "make it again from its survey, with");
+        else
+            say("to mend: %s", other_file(channel));
         return STATUS_REFUSED;
     }
     return STATUS_DONE;

@@ -139,12 +139,21 @@ static long column_of(const struct columns *columns, unsigned number)
     }
 }
 
-/* Says a refusal of the library, with the line and column to look at where it names a cell. */
+/* Says a refusal of the library, with the line and column to look at where it names a cell or is of the deepest. */
 static void say_refusal(const struct csv *csv, const struct columns *columns, const struct survey *survey,
-                        uint64_t answer)
+                        const int64_t counts[3], uint64_t answer)
 {
-    struct rows rows = {survey->cells, survey->depths, survey->heights, survey->velocities, NULL};
+    struct rows rows = {(uint64_t)counts[0], (uint64_t)counts[1], survey->cells,
+                        survey->depths, survey->heights, survey->velocities, NULL};
     unsigned number = pathpetal_number(answer), place = pathpetal_place(answer);
+    if (number == PATHPETAL_TIME_STEP) {
+        size_t cell = deepest_cell(&rows);
+        csv_wrong_on(csv, survey->line[cell], columns->depth, "%s%s (refused, number %u; the deepest is cell %zu)",
+                     refusal_words(number), refusal_found(answer, &rows).text, number, cell + 1);
+        say_time_step(&rows, "take");
+        say("nothing is written");
+        return;
+    }
     if (place > 0)
         csv_wrong_on(csv, survey->line[place - 1], column_of(columns, number), "%s%s (refused, number %u%s)",
                      refusal_words(number), refusal_found(answer, &rows).text, number, refusal_place(answer).text);
@@ -181,7 +190,7 @@ static enum status make_file(const struct csv *csv, const struct columns *column
     uint64_t answer = pathpetal_make(cells, (uint64_t)counts[0], (uint64_t)counts[1], (uint64_t)counts[2],
                                      survey->depths, row, survey->heights, row, survey->velocities, row, file, length);
     if (pathpetal_number(answer) != PATHPETAL_DONE)
-        say_refusal(csv, columns, survey, answer);
+        say_refusal(csv, columns, survey, counts, answer);
     else
         status = whole_write(path, file, length, &(struct over){.any = replace});
     if (status == STATUS_DONE) {

@@ -28,6 +28,7 @@ static const struct {
     [PATHPETAL_BUFFER] = {"the room for the file has not its length", "tell who looks after the program"},
     [PATHPETAL_NINTH_GAUGE] = {"eight gauges are placed already", "tell who looks after the program"},
     [PATHPETAL_OFF_CHANNEL] = {"a gauge's cell is not in the channel", "mark cells that the channel has"},
+    [PATHPETAL_TIME_STEP] = {"the time step is too long for the deepest cell", "take a shorter time step, or wider cells"},
     [PATHPETAL_GAUGE_FULL] = {"a gauge holds 1,000,000 heights already", "begin a record under another name"},
     [PATHPETAL_BAD_DEPTH] = {"a depth is 1 to 20,000 mm",
                              "correct that depth; it may have been typed in another unit than mm"},
@@ -61,7 +62,17 @@ struct rows rows_of(const uint8_t *file)
 {
     size_t cells = pathpetal_cells(file);
     const uint8_t *first = file + 48;
-    return (struct rows){cells, first, first + 4 * cells, first + 8 * cells, first + 12 * cells};
+    return (struct rows){pathpetal_width_mm(file), pathpetal_step_ms(file), cells,
+                         first, first + 4 * cells, first + 8 * cells, first + 12 * cells};
+}
+
+size_t deepest_cell(const struct rows *rows)
+{
+    size_t deepest = 0;
+    for (size_t cell = 1; cell < rows->cells; cell++)
+        if (pathpetal_signed(rows->depths + 4 * cell) > pathpetal_signed(rows->depths + 4 * deepest))
+            deepest = cell;
+    return deepest;
 }
 
 struct shown refusal_place(uint64_t answer)
@@ -101,6 +112,10 @@ struct standing refusal_found(uint64_t answer, const struct rows *rows)
     const uint8_t *row = NULL;
     unsigned place = pathpetal_place(answer);
     size_t cell = place - 1;
+    if (pathpetal_number(answer) == PATHPETAL_TIME_STEP)
+        snprintf(out.text, sizeof out.text, ": %s ms, with cells of %s mm and a depth of %s mm",
+                 GROUPED((int64_t)rows->step), GROUPED((int64_t)rows->width),
+                 at_cell(rows->depths, deepest_cell(rows)).text);
     if (place == 0)
         return out;
     switch (pathpetal_number(answer)) {
@@ -129,13 +144,16 @@ struct measures {
     uint64_t depth, width, step;
 };
 
-static struct measures measures_of(const uint8_t *file)
+static struct measures measures_in(const struct rows *rows)
 {
-    struct measures of = {.width = pathpetal_width_mm(file), .step = pathpetal_step_ms(file)};
-    for (size_t cell = 0; cell < pathpetal_cells(file); cell++)
-        if ((uint64_t)pathpetal_depth_mm(file, cell) > of.depth)
-            of.depth = (uint64_t)pathpetal_depth_mm(file, cell);
-    return of;
+    uint64_t depth = (uint64_t)pathpetal_signed(rows->depths + 4 * deepest_cell(rows));
+    return (struct measures){depth, rows->width, rows->step};
+}
+
+/* Whether the library allows the time step: a Courant number whose square is at most 6. */
+static bool is_allowed(struct measures of)
+{
+    return 9810 * of.depth * of.step * of.step <= 6000000 * of.width * of.width;
 }
 
 enum { COURANT_ADVISED = 350 }; /* thousandths, by docs/CHOOSING.md */
@@ -145,6 +163,34 @@ enum { COURANT_ADVISED = 350 }; /* thousandths, by docs/CHOOSING.md */
 static bool courant_within(struct measures of, uint64_t thousandths)
 {
     return 9810 * of.depth * of.step * of.step <= thousandths * thousandths * of.width * of.width;
+}
+
+/* The longest time step that is advised; 0 where 1 ms is too long. */
+static uint64_t advised_step(struct measures of)
+{
+    of.step = STEP_MOST;
+    while (of.step > 0 && !courant_within(of, COURANT_ADVISED))
+        of.step--;
+    return of.step;
+}
+
+/* 1 ms is allowed in every channel, and so are cells of 5,000 mm. */
+void say_time_step(const struct rows *rows, const char *how)
+{
+    struct measures of = measures_in(rows), wider = of;
+    uint64_t advised = advised_step(of);
+    while (!is_allowed(of))
+        of.step--;
+    while (!is_allowed(wider))
+        wider.width++;
+    say("to mend: %s a time step of at most %s ms, the longest that is allowed here, or cells of at least %s mm", how,
+        GROUPED((int64_t)of.step), GROUPED((int64_t)wider.width));
+    if (advised > 0)
+        say("waves may still grow with what is allowed: at most %s ms is advised here (a Courant number of 0.35)",
+            GROUPED((int64_t)advised));
+    else
+        say("waves may still grow with what is allowed: wider cells are advised here, even for 1 ms (a Courant number of "
+            "0.35)");
 }
 
 /* Of a Courant number above what is advised: "the Courant number is 1.57, and 0.35 is advised". */
@@ -166,11 +212,10 @@ static struct standing courant_words(struct measures of)
 static void say_courant(struct measures of)
 {
     struct standing why = courant_words(of);
-    while (of.step > 0 && !courant_within(of, COURANT_ADVISED))
-        of.step--;
-    if (of.step > 0) {
+    uint64_t advised = advised_step(of);
+    if (advised > 0) {
         say("to mend: take a shorter time step: at most %s ms for cells of %s mm and a depth of %s mm (%s)",
-            GROUPED((int64_t)of.step), GROUPED((int64_t)of.width), GROUPED((int64_t)of.depth), why.text);
+            GROUPED((int64_t)advised), GROUPED((int64_t)of.width), GROUPED((int64_t)of.depth), why.text);
         return;
     }
     of.step = 1;
@@ -216,7 +261,8 @@ static void say_calm_mend(struct measures of, uint64_t answer, const char *befor
 
 void say_mend(const uint8_t *file, uint64_t answer, bool poured)
 {
-    struct measures of = measures_of(file);
+    struct rows rows = rows_of(file);
+    struct measures of = measures_in(&rows);
     unsigned number = pathpetal_number(answer);
     const char *pour_less = refusal_mend(PATHPETAL_BAD_POURED);
     /* the refusals that too long a time step leads to */

@@ -80,6 +80,8 @@ enum pathpetal_reason {
                                  complete; call again to go on */
     PATHPETAL_NINTH_GAUGE = 20, /* eight gauges are placed already */
     PATHPETAL_OFF_CHANNEL = 21, /* a gauge's cell is not in the channel */
+    PATHPETAL_TIME_STEP = 26,   /* the time step is too long for the deepest cell: 9,810 * depth * step * step is more
+                                   than 6,000,000 * width * width; take a shorter one or wider cells */
     PATHPETAL_GAUGE_FULL = 30,  /* a gauge holds 1,000,000 heights already */
     PATHPETAL_BAD_DEPTH = 31,        /* a depth is not 1 to 20,000 mm */
     PATHPETAL_BAD_HEIGHT = 32,       /* a height is not within 20,000,000 um */
@@ -91,14 +93,15 @@ enum pathpetal_reason {
 };
 
 /* The rule that all calls of the library that is linked follow: 3, and no answer as above. It grows whenever a call
-   comes to leave other numbers in a file for the same input, so that a host can tell what it may go on with. By rule 2 a
+   comes to leave other numbers in a file for the same input, so that a host can tell what it may go on with; it has not
+   grown by refusal 26, which came later, for a channel that is refused has no other numbers. By rule 2 a
    half was rounded away from zero, and not to the even number. Rule 1 was that before the start ladder, the time weights
    of a first and a second step; its library has no such function. */
 uint64_t pathpetal_rule(void);
 
 /* Makes the file of a new channel, with no step accepted, in the file_len bytes at file: exactly
    pathpetal_length(cells). depths, heights and velocities hold 4 bytes for each cell, signed and little-endian
-   (mm, um, um/s). Refused: 1, 2, 31, 32, 33, 4, 5, 15, 7, 9, the first that holds in this order. */
+   (mm, um, um/s). Refused: 1, 2, 31, 32, 33, 4, 26, 5, 15, 7, 9, the first that holds in this order. */
 uint64_t pathpetal_make(uint64_t cells, uint64_t width_mm, uint64_t step_ms, uint64_t wanted,
                         const uint8_t *depths, size_t depths_len,
                         const uint8_t *heights, size_t heights_len,
@@ -106,7 +109,8 @@ uint64_t pathpetal_make(uint64_t cells, uint64_t width_mm, uint64_t step_ms, uin
                         uint8_t *file, size_t file_len);
 
 /* Whether these bytes are a channel file that every other call will take. Refused: 12 (shorter than its head), 13,
-   1, 12 (not the length for its cells), 14, 2, 31, 32, 33, 34, 35, 36, 4, 5. */
+   1, 12 (not the length for its cells), 14, 2, 31, 32, 33, 34, 35, 36, 4, 26, 5. No file that a call has
+   changed or made is refused by 26. */
 uint64_t pathpetal_check(const uint8_t *file, size_t file_len);
 
 /* One step, with an amount of water poured into each cell: poured holds 4 bytes for each cell (um, within
@@ -167,7 +171,7 @@ static inline uint64_t pathpetal_count(uint64_t answer) { return answer / 335544
 /* The length of a channel's file. */
 static inline size_t pathpetal_length(size_t cells) { return 24 + 64 * cells; }
 
-/* Reading from the bytes of a file that pathpetal_check takes, or refuses with 4, 5 or 31 to 36. */
+/* Reading from the bytes of a file that pathpetal_check takes, or refuses with 4, 5, 26 or 31 to 36. */
 static inline uint32_t pathpetal_word(const uint8_t *at)
 {
     return (uint32_t)at[0] | (uint32_t)at[1] << 8 | (uint32_t)at[2] << 16 | (uint32_t)at[3] << 24;

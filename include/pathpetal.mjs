@@ -84,6 +84,7 @@ export const reasons = Object.freeze({
     16: 'a run only: as many steps were taken as this call allowed, and the channel is not complete; call again to go on',
     20: 'eight gauges are placed already',
     21: "a gauge's cell is not in the channel",
+    26: 'the time step is too long for the deepest cell: 9,810 * depth * step * step is more than 6,000,000 * width * width; take a shorter one or wider cells',
     30: 'a gauge holds 1,000,000 heights already',
     31: 'a depth is not 1 to 20,000 mm',
     32: 'a height is not within 20,000,000 um',
@@ -105,7 +106,7 @@ export class Refusal extends Error {
         super(`refused ${number}${where}${stage ? ` at correction ${stage}` : ''}: ${reasons[number]}`);
         this.name = 'Refusal';
         /**
-         * Why: 1, 2, 4 to 15, 20, 21 or 30 to 37, as in pathpetal.h.
+         * Why: 1, 2, 4 to 15, 20, 21, 26 or 30 to 37, as in pathpetal.h.
          * @type {number}
          */
         this.number = number;
@@ -329,7 +330,7 @@ export class Pathpetal {
      * @param {Start} start
      * @param {Uint8Array} [file] room for it, of exactly its length; without it there is a new one
      * @returns {Uint8Array} the file
-     * @throws {Refusal} 1, 2, 31, 32, 33, 4, 5, 15, 7, 9, the first that holds in this order
+     * @throws {Refusal} 1, 2, 31, 32, 33, 4, 26, 5, 15, 7, 9, the first that holds in this order
      */
     make(start, file) {
         const cells = whole(start.cells, 'cells');
@@ -351,7 +352,7 @@ export class Pathpetal {
      * @param {Uint8Array} file
      * @returns {void}
      * @throws {Refusal} 12 (shorter than its head), 13, 1, 12 (not the length for its cells), 14, 2, 31, 32, 33, 34,
-     *     35, 36, 4, 5
+     *     35, 36, 4, 26, 5
      */
     check(file) {
         accepted(parts(this.#calls.pathpetal_check(...this.#lend(checked(file, 'file'), 0))));

@@ -4,6 +4,7 @@ import os, random, re, shutil, struct
 from common import (COUNTS, DONE, OPEN, OPTIONS, REFUSED, TOP, check, forget, from_shell, go, group, listing, read,
     start, taken, tested, write)
 from formats import counts
+from steps import hasty_mend
 
 
 def start_faults(begin):
@@ -120,6 +121,49 @@ def bad_rows(begin):
     tried({(0, 0): 20000}, f"5, in cell 2: {steep}: {second:,} mm beside 20,000 and {third:,} mm", "a steep bottom")
     tried({(0, 1): 20000}, f"5, in cell 1: {steep}: {depth:,} mm beside 20,000 mm", "a steep bottom at the left wall")
     forget("bad.channel")
+
+
+def long_steps(begin):
+    """Files of channels whose time step is too long, as earlier programs made them."""
+    group("START with a time step that is too long for its deepest cell")
+    cells = counts(begin)[0]
+
+    def late(width, step, depths, heights=None, accepted=0):
+        data = bytearray(begin)
+        struct.pack_into("<3I", data, 8, width, step, accepted)
+        struct.pack_into(f"<{cells}i", data, 48, *depths)
+        struct.pack_into(f"<{cells}i", data, 48 + 4 * cells, *(heights or [0] * cells))
+        return bytes(data)
+
+    wanted = counts(begin)[2]
+    for j in (0, 17, cells - 1):
+        for accepted in (0, 5, wanted):
+            depths = [6500] * cells
+            depths[j] = 6541
+            data = late(327, 100, depths, accepted=accepted)
+            write("bad.channel", data)
+            says = "pathpetal: bad.channel: refused, number 26: the time step is too long for the deepest cell: 100 ms, " \
+                "with cells of 327 mm and a depth of 6,541 mm\npathpetal: to mend: make it again from its survey, with " \
+                f"{hasty_mend(327, 6541, 100)}\n"
+            for line in (("run", "bad.channel", "-o", "bad.end"), ("show", "bad.channel", "--svg", "bad.svg"),
+                ("check", "bad.channel"), ("check", "bad.channel", "--complete")):
+                before = listing()
+                go(*line, status=REFUSED, says=f"^{re.escape(says)}$", name=f"{line[0]}: cell {j + 1}, {accepted} steps")
+                check(listing() == before, f"{line[0]}: something was written or changed")
+            depths[j] = 6540
+            write("good.channel", late(327, 100, depths, accepted=accepted))
+            go("check", "good.channel", name="the deepest depth that is allowed")
+    dry = late(327, 100, [6541] * cells, [0] * (cells - 1) + [-6540001])
+    steep = late(327, 100, [6541] * (cells - 1) + [1000])
+    for data, words in ((dry, f"4, in cell {cells}: less than 1 mm"), (steep, "26: the time step")):
+        write("bad.channel", data)
+        go("check", "bad.channel", status=REFUSED, says=f"^pathpetal: bad.channel: refused, number {words}")
+    # END of such a run, as an earlier program left it, is neither gone on with nor written over
+    write("end.channel", late(327, 100, [6541] * cells, accepted=5))
+    kept = read("end.channel")
+    go("run", "start.channel", "-o", "end.channel", status=REFUSED, says="end.channel: is there already")
+    check(read("end.channel") == kept, "it stays")
+    forget("bad.channel", "good.channel", "end.channel")
 
 
 def other_files(begin, record):

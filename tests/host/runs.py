@@ -5,6 +5,7 @@ from common import (COUNTS, OPEN, OPTIONS, POUR, REFUSED, ROWS, STAFFS, check, c
     known, listing, parts_left, read, saved, tested, write)
 from formats import (beside, counts, every_height, heights, lines_of, record_end, record_head, record_rows, summed,
     survey, up_to, whole_record)
+from steps import ADVISED, ALLOWED, longest, narrowest, root
 
 
 def prepare():
@@ -170,23 +171,20 @@ def or_deeper(cell):
     return f"\npathpetal: or make the water deeper in cell {cell}, which fell dry"
 
 
-def root(number):
-    """The least whole number whose square is at least a fraction (above, below)."""
-    return math.isqrt(-(-number[0] // number[1]) - 1) + 1
-
-
 def advice():
     group("what to mend after a refused step")
     draw = random.Random(tested.seed + 3)
     cases = [(200, 1000, 100), (327, 1090, 35), (327, 1090, 36), (10, 20000, 1), (40, 20000, 1), (41, 20000, 1),
-        (41, 20000, 2), (10, 1, 35), (10, 1, 36), (5000, 20000, 100), (10, 20000, 100), (3999, 20000, 100),
+        (41, 20000, 2), (10, 1, 35), (10, 1, 36), (5000, 20000, 100), (10, 5000, 3), (3999, 20000, 100),
         (4003, 20000, 100), (894, 1000, 100)]
-    cases += [(draw.randint(10, 2000), draw.randint(1, 20000), draw.randint(1, 100)) for _ in range(25)]
+    for _ in range(25):
+        width, depth = draw.randint(10, 2000), draw.randint(1, 20000)
+        cases.append((width, depth, draw.randint(1, min(100, longest(width, depth, ALLOWED)))))
     for _ in range(15):
         # time steps at the border
         width, depth = draw.randint(30, 1500), draw.randint(1, 20000)
-        longest = math.isqrt(12250 * width * width // (981 * depth))
-        cases += [(width, depth, step) for step in (longest, longest + 1) if 1 <= step <= 100]
+        last = longest(width, depth, ADVISED)
+        cases += [(width, depth, step) for step in (last, last + 1) if 1 <= step <= 100]
     told = {"a time step": 0, "a width": 0, "neither": 0}
     for width, depth, step in cases:
         # at most 1 m of water, and all of it taken out of one cell
@@ -194,21 +192,21 @@ def advice():
         write("a.csv", survey([(depth, low)] * 8, "depth_mm,height_um"))
         write("a.pour", f"step,cell,amount_um\n1,4,{-1000 * min(depth, 1000)}\n")
         go("make", "a.csv", "-o", "a.channel", "--width-mm", width, "--step-ms", step, "--steps", 9, "--replace")
-        longest = math.isqrt(12250 * width * width // (981 * depth))
-        courant = root((4 * 981 * depth * step * step, 10 * width * width)) // 2  # hundredths, the nearest
+        advised = longest(width, depth, ADVISED)
+        courant = root(4 * 981 * depth * step * step, 10 * width * width) // 2  # hundredths, the nearest
         why = rf"\(the Courant number is {courant // 100}\.{courant % 100:02}, and 0\.35 is advised\)"
         if courant == 35:
             why = r"\(the Courant number is just above the 0\.35 that is advised\)"
-        if step <= longest:
+        if step <= advised:
             told["neither"] += 1
             words = f"to mend: {LESS}\npathpetal: or {deeper(4)}"
-        elif longest >= 1:
+        elif advised >= 1:
             told["a time step"] += 1
-            words = f"to mend: take a shorter time step: at most {longest:,} ms for cells of {width:,} mm and a " \
+            words = f"to mend: take a shorter time step: at most {advised:,} ms for cells of {width:,} mm and a " \
                 rf"depth of {depth:,} mm {why}\npathpetal: or {LESS}{or_deeper(4)}"
         else:
             told["a width"] += 1
-            words = f"to mend: take wider cells: at least {root((981 * depth, 12250)):,} mm for a time step of 1 ms " \
+            words = f"to mend: take wider cells: at least {narrowest(depth, 1, ADVISED):,} mm for a time step of 1 ms " \
                 rf"and a depth of {depth:,} mm {why}\npathpetal: or {LESS}{or_deeper(4)}"
         go("run", "a.channel", "-o", "a.end", "--pour", "a.pour", status=OPEN, name=f"{width}, {depth}, {step}",
             says=rf"\(number 4, stage 0\){dry(4, width)}pathpetal: {words}\npathpetal: a.end: open: 0 of 9 steps "

@@ -3,6 +3,7 @@ import os, random, re, struct
 
 from common import COUNTS, REFUSED, ROWS, USAGE, check, forget, go, group, listing, read, tested, write
 from formats import survey
+from steps import ALLOWED, hasty_mend, longest
 
 
 def good_surveys():
@@ -63,24 +64,29 @@ def steep(depths, j, width):
     return 10000000 * width * width + (7800390 + 3900195 * (j in (0, last))) * h * h <= beside
 
 
-def fault(rows, width):
-    """The refusal of a survey's rows: its number, the column, the cell from 0, and what is said of it; None if there is
-    none of these."""
+def fault(rows, width, step):
+    """The refusal of a survey's rows: its number, the column, the cell from 0 and the words before and after it; None if
+    there is none of these."""
     for k, (number, name, least, most) in enumerate(((31, "depth_mm", 1, 20000), (32, "height_um", -20000000, 20000000),
         (33, "velocity_um_s", -20000000, 20000000))):
         for j, row in enumerate(rows):
             if not least <= row[k] <= most:
-                return number, name, j, f"{ROW_WORDS[name]}, not {row[k]:,}"
+                return number, name, j, f"{ROW_WORDS[name]}, not {row[k]:,}", MENDS[number]
     for j, (depth, height, _) in enumerate(rows):
         if 1000 * depth + height < 1000:
             return 4, "height_um", j, \
-                f"less than 1 mm of water is left: a depth of {depth:,} mm, a height of {height:,} um"
+                f"less than 1 mm of water is left: a depth of {depth:,} mm, a height of {height:,} um", MENDS[4]
     depths = [row[0] for row in rows]
+    deepest = max(depths)
+    if 9810 * deepest * step * step > 6000000 * width * width:
+        return 26, "depth_mm", depths.index(deepest), "the time step is too long for the deepest cell: " \
+            f"{step} ms, with cells of {width:,} mm and a depth of {deepest:,} mm", \
+            f"take {hasty_mend(width, deepest, step)}"
     for j, depth in enumerate(depths):
         if steep(depths, j, width):
             beside = " and ".join(f"{depths[k]:,}" for k in (j - 1, j + 1) if 0 <= k < len(depths))
             return 5, "depth_mm", j, "the bottom is too steep for cells this narrow: " \
-                f"{depth:,} mm beside {beside} mm"
+                f"{depth:,} mm beside {beside} mm", MENDS[5]
     return None
 
 
@@ -91,8 +97,9 @@ def refused_cells():
     names = ["place", "velocity_um_s", "depth_mm", "cell", "height_um"]
     seen = {}
 
-    def tried(rows, name, width=1000):
-        wrong = fault(rows, width)
+    def tried(rows, name, width=1000, step=COUNTS[3]):
+        wrong = fault(rows, width, step)
+        counts = ("--width-mm", width, "--step-ms", step, *COUNTS[4:])
         order = draw.sample(names, len(names))
         lines, at = [], []
         for j, row in enumerate([None, *rows]):
@@ -104,15 +111,14 @@ def refused_cells():
         forget("bad.channel")
         before = listing()
         if not wrong:
-            go("make", "bad.csv", "-o", "bad.channel", "--width-mm", width, *COUNTS[2:], name=name)
+            go("make", "bad.csv", "-o", "bad.channel", *counts, name=name)
             return forget("bad.channel")
-        number, column, j, words = wrong
+        number, column, j, words, mend = wrong
+        place = f"; the deepest is cell {j + 1}" if number == 26 else f", in cell {j + 1}"
         seen.setdefault(number, set()).add("first" if j == 0 else "last" if j == len(rows) - 1 else "middle")
         says = f"pathpetal: bad.csv: line {at[j + 1]}, column {order.index(column) + 1} ({column}): {words} " \
-            f"(refused, number {number}, in cell {j + 1})\npathpetal: to mend: {MENDS[number]}\n" \
-            "pathpetal: nothing is written\n"
-        go("make", "bad.csv", "-o", "bad.channel", "--width-mm", width, *COUNTS[2:], status=REFUSED, name=name,
-            says=f"^{re.escape(says)}$")
+            f"(refused, number {number}{place})\npathpetal: to mend: {mend}\npathpetal: nothing is written\n"
+        go("make", "bad.csv", "-o", "bad.channel", *counts, status=REFUSED, name=name, says=f"^{re.escape(says)}$")
         return check(listing() == before, f"{name}: something was written or changed")
 
     plain = [(900 + j % 3, 0, 0) for j in range(60)]
@@ -147,11 +153,31 @@ def refused_cells():
             value = draw.choice((0, -1, 1, 20000, 20001, 20000000, 20000001, -20000000, -20000001, -899001))
             column = draw.randrange(3)
             rows[j] = tuple(value if i == column else old for i, old in enumerate(rows[j]))
-        if fault(rows, 1000):
+        if fault(rows, 1000, COUNTS[3]):
             tried(rows, f"drawn faults {k}")
+    flat = lambda depth: [(depth, 0, 0)] * 60
+    for width, depth, step in ((20, 500, 20), (20, 500, 22), (20, 500, 23), (327, 6540, 100), (327, 6541, 100),
+        (10, 20000, 1), (10, 20000, 2), (10, 20000, 100), (571, 20000, 100), (572, 20000, 100), (10, 1, 78), (10, 1, 79)):
+        tried(flat(depth), f"{depth} mm, cells of {width} mm, steps of {step} ms", width, step)
+    for j in (0, 1, 38, 58, 59):
+        tried(with_cells({j: (6541, 0, 0)}, flat(6540)), f"the deepest is cell {j + 1}", 327, 100)
+        tried(with_cells({j: (6540, 0, 0)}, flat(6500)), f"the deepest, cell {j + 1}, is allowed", 327, 100)
+    tried(with_cells({7: (6550, 0, 0), 31: (6550, 0, 0), 40: (6549, 0, 0)}, flat(6540)), "the first of the deepest", 327, 100)
+    tried(with_cells({40: (6541, -6540001, 0)}, flat(6540)), "a dry cell before the time step", 327, 100)
+    tried(with_cells({3: (6541, 0, 0), 40: (6540, 0, 20000001)}, flat(6540)), "a velocity before it", 327, 100)
+    tried(with_cells({4: (1000, 0, 0)}, flat(6541)), "the time step before a steep bottom", 327, 100)
+    tried(with_cells({4: (1000, 0, 0)}, flat(6540)), "a steep bottom alone", 327, 100)
+    for _ in range(20):
+        # the longest time step that is allowed, and 1 ms more
+        width, depth = draw.randint(10, 500), draw.randint(100, 20000)
+        last = longest(width, depth, ALLOWED)
+        for step in (last, last + 1):
+            if step <= 100:
+                tried(with_cells({draw.randrange(60): (depth, 0, 0)}, flat(depth - 1)), f"at the bound: {width}, {depth}",
+                    width, step)
     for number, places in sorted(seen.items()):
         check(len(places) == 3, f"refusal {number} in the first, a middle and the last cell: {places}")
-    check(sorted(seen) == [4, 5, 31, 32, 33], f"each refusal of a cell: {sorted(seen)}")
+    check(sorted(seen) == [4, 5, 26, 31, 32, 33], f"each refusal of a cell: {sorted(seen)}")
 
 
 def bad_surveys():

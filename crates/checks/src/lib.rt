@@ -1,4 +1,4 @@
-// "Refusal numbers": the checks of an input, in the order 1, 2, 31 to 37, 4, 5.
+// "Refusal numbers": the checks of an input, in the order 1, 2, 31 to 37, 4, 26, 5.
 ghost use mathlib.Core.Path.{_≡_};
 ghost use mathlib.Core.Bool.{_&&_};
 ghost use mathlib.Core.List.{[], _∷_};
@@ -10,7 +10,7 @@ ghost use Rattle.rule.specs.Rows.{map, same, lowest};
 ghost use Rattle.rule.specs.Channel.{lengths, water};
 ghost use Rattle.rule.specs.Counted.{counted};
 ghost use Rattle.rule.specs.Ranges as rule;
-ghost use Rattle.rule.specs.Ranges.{leastWater};
+ghost use Rattle.rule.specs.Ranges.{leastWater, mostTime};
 ghost use Rattle.rule.specs.Checks as checks;
 ghost use Rattle.rule.specs.Refusals.{numberOf, faultOf};
 ghost use Rattle.coefficients.specs.Ready.{Bed};
@@ -19,6 +19,7 @@ ghost use Rattle.checks.specs.Allowed.{pouredRows};
 ghost use Rattle.checks.specs.Asked.{Water};
 ghost use Rattle.checks.specs.Facts.{depthAt, isDeep};
 ghost use Rattle.rule.specs.Make.{makeChecked};
+ghost use Rattle.checks.specs.Numbers.{firstOf};
 ghost use Rattle.checks.specs.Order.{formed};
 
 // At least 1,000 µm of water in cell j + 1.
@@ -68,17 +69,29 @@ pub fn lowest_dry(h: &[i64], e: &[i64], n: usize) -> u64
     search_dry(h, e, n)
 }
 
-// 4, then 5: what depths and heights must meet together.
-pub fn wet(n: usize, x: u64, h: &[i64], e: &[i64]) -> rule::Fault
-    requires { ⌜ Bed n x (now h) × ((n ≤ length (now e)) × Within 74_000_000_000 n (now e)) ⌝ }
-    ensures { λ r. ⌜ r ≡ faultOf (checks.wet n x (now (h .entry)) (now (e .entry))) ⌝ }
+// The first of two faults that is a refusal's, or none.
+pub fn first_of(one: rule::Fault, other: rule::Fault) -> rule::Fault
+    ensures { λ r. ⌜ r ≡ firstOf one other ⌝ }
+{
+    if one.number != 0 {
+        return one;
+    }
+    other
+}
+
+// 4, then 26, then 5: what depths must meet together with the heights, the time step and the cell width.
+pub fn wet(n: usize, x: u64, t: u64, h: &[i64], e: &[i64]) -> rule::Fault
+    requires { ⌜ Bed n x (now h) × (t ≤ mostTime) × (n ≤ length (now e)) × Within 74_000_000_000 n (now e) ⌝ }
+    ensures { λ r. ⌜ r ≡ faultOf (checks.wet n x t (now (h .entry)) (now (e .entry))) ⌝ }
 {
     let none = rule::Fault {
         number: 0,
         place: 0,
     };
+    let dry = places::or_fault(4, lowest_dry(h, e, n), none);
+    let late = pace::check(n, x, t, h);
     let steep = places::or_fault(5, coefficients::lowest_not_dominant(n, x, h), none);
-    places::or_fault(4, lowest_dry(h, e, n), steep)
+    first_of(dry, first_of(late, steep))
 }
 
 pub fn cells_allowed(n: usize) -> bool
@@ -159,7 +172,7 @@ pub fn check(
     if fault.number != 0 {
         return fault;
     }
-    wet(c.n, c.x, h, e)
+    wet(c.n, c.x, c.t, h, e)
 }
 
 // 1: N, and the lengths of the rows that make takes.
@@ -187,5 +200,5 @@ pub fn check_made(c: rule::Counts, h: &[i64], e: &[i64], u: &[i64]) -> rule::Fau
     if fault.number != 0 {
         return fault;
     }
-    wet(c.n, c.x, h, e)
+    wet(c.n, c.x, c.t, h, e)
 }

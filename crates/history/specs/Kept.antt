@@ -4,15 +4,18 @@ use Prim.Native.Nat.{_+_, _≤_}
 use mathlib.Core.Path.{_≡_, _∙_, ap}
 use mathlib.Core.List.{[]}
 use native.Mathlib.Omega.{arith}
+use lib.Dec.{eqb}
 use lib.IntN.{_+ℤ_}
 use Rattle.rule.specs.Rows.{sum}
 use Rattle.rule.specs.Channel.{Channel}
 use Rattle.rule.specs.Refusals.{numberOf}
 use Rattle.rule.specs.Checks.{checked}
+use Rattle.rule.specs.Calls.{Called}
 use Rattle.answers.specs.Stages.{leaves}
 use Rattle.water.specs.History.{after, water-kept}
 use Rattle.water.specs.Counts.{complete-stays, count-grows, count-bounded, wanted-stays}
 use Rattle.water.specs.Again.{accepted-passes}
+use Rattle.water.specs.Late.{Timely, step-timely, filter-timely, run-timely, run-for-timely}
 use Rattle.history.specs.Steps as steps
 use Rattle.history.specs.Filters as filters
 use Rattle.history.specs.Runs as runs
@@ -54,6 +57,14 @@ module _ {c d : Channel} (h : History c d) where
   pub library-complete-stays : c .accepted ≡ c .wanted → d ≡ c
   library-complete-stays e = whole h .is ∙ complete-stays c e (calls h)
 
+-- by the rule 26 is not met by a channel that passes the checks
+ruled-timely : {c d : Channel} (l : Link c d) → numberOf (checked c []) ≡ 0 → Timely (ruled l .answer .number)
+unfolding ruled
+ruled-timely (step o) z = step-timely (steps.entry o) (steps.row o) z
+ruled-timely (filter o) z = filter-timely (filters.entry o) z
+ruled-timely (run o) z = run-timely (runs.entry o) z
+ruled-timely (run-for o) z = run-for-timely (runs.most o) (runs.entry-for o) z
+
 -- what the maker or the reader accepts passes the checks of an input
 pub start-passes : {c : Channel} → Start c → numberOf (checked c []) ≡ 0
 start-passes (made o z) = make-starts o z
@@ -63,6 +74,10 @@ module _ {c d : Channel} (start : Start c) (h : History c d) where
   -- and so does every channel between
   pub library-passes : numberOf (checked d []) ≡ 0
   library-passes = ap (λ x. numberOf (checked x [])) (whole h .is) ∙ accepted-passes c (calls h) (start-passes start)
+
+  -- so that no call meets 26
+  pub library-never-late : {after : Channel} (l : Link d after) → Timely (answer l .number)
+  library-never-late l = ap (λ (k : Called Channel). eqb (k .answer .number) 26) (answers-are-the-rule's l) ∙ ruled-timely l library-passes
 
   -- the count of accepted steps never passes the count that is wanted
   pub library-count-bounded : d .accepted ≤ d .wanted

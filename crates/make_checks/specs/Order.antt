@@ -16,14 +16,10 @@ use Rattle.rule.specs.Layout.{lengthOf}
 use Rattle.rule.specs.File.{edition, fileOf}
 use Rattle.rule.specs.Calls.{Called, called, rowIn, holds, makeFile}
 use Rattle.places.specs.Faults.{plain, none}
-use Rattle.checks.specs.Numbers.{numbered, number-not-0, done-of, regroup, both-done, Outside, refuses-then, refuses-last, passed-last, Early}
+use Rattle.checks.specs.Numbers.{done-of, regroup, firstOf, first-is, both-done, Outside, refuses-then, refuses-last, passed-last, Early}
 use Rattle.checks.specs.Met.{make-checked-outside}
 use Rattle.checks.specs.Made.{Makeable, makeable-of}
 use Rattle.answers.specs.Stages.{early, refused-first, unfit-call, leavesBytes}
-
--- the first of two faults whose number is not 0
-unfoldable pub firstOf : Fault → Fault → Fault
-firstOf one other = cond (eqb (one .number) 0) other one
 
 -- 15: a buffer of `room` bytes, for n cells
 unfoldable pub bufferChecked : ℕ → ℕ → Outcome (Unit {0})
@@ -40,12 +36,6 @@ filed s m = called s (λ _. 0) fileOf m
 -- from rows of whole numbers
 unfoldable pub makeRows : ℕ → ℕ → ℕ → ℕ → Row → Row → Row → List ℕ → Called (List ℕ)
 makeRows n X T wanted h e u s = filed s (tested n X T wanted h e u (length s) >>= λ _. make n X T wanted h e u)
-
--- the fault of the first that is refused is the fault of both
-pub first-is : {B : Type 0} (m : Outcome (Unit {0})) (f : Unit {0} → Outcome B) (one other : Fault) → one ≡ faultOf m → other ≡ faultOf (f tt) → firstOf one other ≡ faultOf (m >>= f)
-unfolding _>>=_ numberOf placeOf firstOf
-first-is (refused r k) f one other p q = rw (ne-eqb (one .number) 0 (λ z. number-not-0 r (sym (numbered p) ∙ z))) p
-first-is (done a) f one other p q = rw p q
 
 pub buffer-15 : (n room : ℕ) → (room ≡ lengthOf edition n → ⊥) → plain 15 ≡ faultOf (bufferChecked n room)
 unfolding bufferChecked require numberOf placeOf number place

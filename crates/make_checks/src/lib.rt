@@ -5,7 +5,7 @@ ghost use Prim.Native.Nat.{_≤_};
 ghost use Rattle.rule.specs.Ranges.{cellsAllowed, mostCells};
 ghost use Rattle.rule.specs.Refusals.{faultOf};
 ghost use Rattle.rule.specs.Calls.{holds};
-ghost use Rattle.make_checks.specs.Order.{firstOf, bufferChecked, tested};
+ghost use Rattle.make_checks.specs.Order.{bufferChecked, tested};
 
 // 1: N, and the bytes of the rows. N is tested first, so that 4N does not wrap.
 pub fn shape_passes(n: u64, h: &[u8], e: &[u8], u: &[u8]) -> bool
@@ -36,16 +36,6 @@ fn check_buffer(n: usize, room: usize) -> rule::Fault
     }
 }
 
-// The first of two faults that is a refusal's, or none.
-fn first(one: rule::Fault, other: rule::Fault) -> rule::Fault
-    ensures { λ r. ⌜ r ≡ firstOf one other ⌝ }
-{
-    if one.number != 0 {
-        return one;
-    }
-    other
-}
-
 // The input checks, then 15: none, or the fault of the first that fails.
 pub fn check(c: rule::Counts, h: &[i64], e: &[i64], u: &[i64], room: usize) -> rule::Fault
     requires { ⌜ (1 ≤ c .n) × (c .n ≤ mostCells) ⌝ }
@@ -53,5 +43,5 @@ pub fn check(c: rule::Counts, h: &[i64], e: &[i64], u: &[i64], room: usize) -> r
 {
     let input = checks::check_made(c, h, e, u);
     let length = check_buffer(c.n, room);
-    first(input, length)
+    checks::first_of(input, length)
 }

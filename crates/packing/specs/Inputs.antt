@@ -13,8 +13,8 @@ use Rattle.rule.specs.Rows.{Row, cell, map, all, same}
 use Rattle.rule.specs.Ranges.{cellsAllowed, mostCells}
 use Rattle.rule.specs.Channel.{Channel, rows, lengths, water}
 use Rattle.rule.specs.Coefficients.{coefficients}
-use Rattle.rule.specs.Refusals.{place, shape, counts, depthValue, heightValue, velocityValue, reducedValue, fluxValue, accelerationValue, pouredValue, depth, dominance, complete}
-use Rattle.rule.specs.Checks.{long, deep, wet, pourable, shaped, allowed, checked, isComplete, ready}
+use Rattle.rule.specs.Refusals.{place, shape, counts, depthValue, heightValue, velocityValue, reducedValue, fluxValue, accelerationValue, pouredValue, depth, timeStep, dominance, complete}
+use Rattle.rule.specs.Checks.{long, deep, timed, wet, pourable, shaped, allowed, checked, isComplete, ready}
 use Rattle.rule.specs.Make.{makeChecked}
 use Rattle.checks.specs.Tests.{both}
 use Rattle.checks.specs.Facts.{LengthsOf, cells-few, long-three}
@@ -25,10 +25,11 @@ pub deep-bounded : (n : ℕ) (h e : Row) → n ≤ mostCells → Bounded (deep n
 unfolding deep water place
 deep-bounded n h e few = bounded-each _ _ depth (λ j. refl) (omega (arith, length-tab n (λ j. pos 1000 *ℤ cell h j +ℤ cell e j)))
 
-wet-bounded : (n X : ℕ) (h e : Row) → n ≤ mostCells → Bounded (wet n X h e)
-unfolding wet place
-wet-bounded n X h e few =
-    bounded-then (deep n h e) _ (deep-bounded n h e few) (λ _ _. bounded-each _ _ dominance (λ j. refl) (omega (arith, length-tab n (coefficients n X h))))
+wet-bounded : (n X T : ℕ) (h e : Row) → n ≤ mostCells → Bounded (wet n X T h e)
+unfolding wet timed place
+wet-bounded n X T h e few =
+    bounded-then (deep n h e) _ (deep-bounded n h e few) (λ _ _.
+    bounded-test _ timeStep _ refl (λ _. bounded-each _ _ dominance (λ j. refl) (omega (arith, length-tab n (coefficients n X h)))))
 
 -- the rows that are poured have n entries each
 pours-bounded : (n : ℕ) (poured : List Row) → n ≤ mostCells → long n poured ≡ true → Bounded (pourable poured)
@@ -54,7 +55,7 @@ module _ (c : Channel) (poured : List Row) where
       bounded-then _ _ (bounded-levels (c .N - 1) _ (c .Q) fluxValue (λ j. refl) (omega arith)) (λ _ _.
       bounded-then _ _ (bounded-levels (c .N) _ (c .F) accelerationValue (λ j. refl) few) (λ _ _.
       bounded-then _ _ (pours-bounded (c .N) poured few pours) (λ _ _.
-      wet-bounded (c .N) (c .X) (c .h) (c .e) few))))))))
+      wet-bounded (c .N) (c .X) (c .T) (c .h) (c .e) few))))))))
 
   pub checked-bounded : Bounded (checked c poured)
   unfolding checked place
@@ -75,4 +76,4 @@ made-bounded n X T wanted h e u =
     bounded-then _ _ (bounded-each _ h depthValue (λ j. refl) (omega (arith, is .0))) (λ _ _.
     bounded-then _ _ (bounded-each _ e heightValue (λ j. refl) (omega (arith, is .1 .0))) (λ _ _.
     bounded-then _ _ (bounded-each _ u velocityValue (λ j. refl) (omega (arith, is .1 .1))) (λ _ _.
-    wet-bounded n X h e few)))))
+    wet-bounded n X T h e few)))))
