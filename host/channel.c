@@ -81,7 +81,7 @@ enum status channel_read(const char *path, struct channel *channel)
         say("%s: refused, number %u%s: %s%s", path, number, refusal_place(answer).text, refusal_words(number),
             refusal_found(answer, &rows).text);
         if (late)
-            say_time_step(&rows, "make it again from its survey, with");
+            say_time_step(&rows, false);
         else
             say("to mend: %s", other_file(channel));
         return STATUS_REFUSED;

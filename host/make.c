@@ -139,27 +139,25 @@ static long column_of(const struct columns *columns, unsigned number)
     }
 }
 
-/* Says a refusal of the library, with the line and column to look at where it names a cell or is of the deepest. */
+/* Says a refusal of the library, with the line and column to look at where it names a cell, or the line of the deepest. */
 static void say_refusal(const struct csv *csv, const struct columns *columns, const struct survey *survey,
                         const int64_t counts[3], uint64_t answer)
 {
     struct rows rows = {(uint64_t)counts[0], (uint64_t)counts[1], survey->cells,
                         survey->depths, survey->heights, survey->velocities, NULL};
     unsigned number = pathpetal_number(answer), place = pathpetal_place(answer);
-    if (number == PATHPETAL_TIME_STEP) {
-        size_t cell = deepest_cell(&rows);
-        csv_wrong_on(csv, survey->line[cell], columns->depth, "%s%s (refused, number %u; the deepest is cell %zu)",
-                     refusal_words(number), refusal_found(answer, &rows).text, number, cell + 1);
-        say_time_step(&rows, "take");
-        say("nothing is written");
-        return;
-    }
-    if (place > 0)
+    if (number == PATHPETAL_TIME_STEP)
+        say("%s: refused, number %u: %s%s, on line %lu", csv->path, number, refusal_words(number),
+            refusal_found(answer, &rows).text, survey->line[deepest_cell(&rows)]);
+    else if (place > 0)
         csv_wrong_on(csv, survey->line[place - 1], column_of(columns, number), "%s%s (refused, number %u%s)",
                      refusal_words(number), refusal_found(answer, &rows).text, number, refusal_place(answer).text);
     else
         say("%s: refused, number %u: %s", csv->path, number, refusal_words(number));
-    say("to mend: %s", refusal_mend(number));
+    if (number == PATHPETAL_TIME_STEP)
+        say_time_step(&rows, true);
+    else
+        say("to mend: %s", refusal_mend(number));
     say("nothing is written");
 }
 

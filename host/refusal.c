@@ -113,9 +113,9 @@ struct standing refusal_found(uint64_t answer, const struct rows *rows)
     unsigned place = pathpetal_place(answer);
     size_t cell = place - 1;
     if (pathpetal_number(answer) == PATHPETAL_TIME_STEP)
-        snprintf(out.text, sizeof out.text, ": %s ms, with cells of %s mm and a depth of %s mm",
+        snprintf(out.text, sizeof out.text, ": %s ms, with cells of %s mm and a depth of %s mm in cell %zu",
                  GROUPED((int64_t)rows->step), GROUPED((int64_t)rows->width),
-                 at_cell(rows->depths, deepest_cell(rows)).text);
+                 at_cell(rows->depths, deepest_cell(rows)).text, deepest_cell(rows) + 1);
     if (place == 0)
         return out;
     switch (pathpetal_number(answer)) {
@@ -175,7 +175,7 @@ static uint64_t advised_step(struct measures of)
 }
 
 /* 1 ms is allowed in every channel, and so are cells of 5,000 mm. */
-void say_time_step(const struct rows *rows, const char *how)
+void say_time_step(const struct rows *rows, bool survey)
 {
     struct measures of = measures_in(rows), wider = of;
     uint64_t advised = advised_step(of);
@@ -183,8 +183,9 @@ void say_time_step(const struct rows *rows, const char *how)
         of.step--;
     while (!is_allowed(wider))
         wider.width++;
-    say("to mend: %s a time step of at most %s ms, the longest that is allowed here, or cells of at least %s mm", how,
-        GROUPED((int64_t)of.step), GROUPED((int64_t)wider.width));
+    say("to mend: %s a time step of at most %s ms, the longest that is allowed here, or cells of at least %s mm%s",
+        survey ? "take" : "make it again from its survey, with", GROUPED((int64_t)of.step),
+        GROUPED((int64_t)wider.width), survey ? "; or correct that depth, if it is wrong" : "");
     if (advised > 0)
         say("waves may still grow with what is allowed: at most %s ms is advised here (a Courant number of 0.35)",
             GROUPED((int64_t)advised));

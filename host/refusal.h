@@ -27,13 +27,13 @@ size_t deepest_cell(const struct rows *rows);
 struct shown refusal_place(uint64_t answer);
 
 /* What stands at the place of an answer of make or check, to be said after the refusal's words: ", not 25,000"; of a
-   time step that is too long ": 60 ms, with cells of 100 mm and a depth of 3,230 mm"; nothing of other refusals without
-   a place. */
+   time step that is too long ": 50 ms, with cells of 60 mm and a depth of 3,400 mm in cell 92"; nothing of other
+   refusals without a place. */
 struct standing refusal_found(uint64_t answer, const struct rows *rows);
 
-/* Says what to mend where the time step is too long: the longest that the library allows, or the narrowest cells, and the
-   longest that docs/CHOOSING.md advises; `how` is what to do with it. */
-void say_time_step(const struct rows *rows, const char *how);
+/* Says what to mend where the time step is too long, of a survey or else of a file: the longest that the library allows,
+   or the narrowest cells; and the longest that docs/CHOOSING.md advises. */
+void say_time_step(const struct rows *rows, bool survey);
 
 /* Says what to mend in a run whose step or filter pass was refused: the time step first, where it is longer than
    docs/CHOOSING.md advises; `poured` is whether water was poured into the step. */

@@ -138,13 +138,14 @@ def long_steps(begin):
     wanted = counts(begin)[2]
     for j in (0, 17, cells - 1):
         for accepted in (0, 5, wanted):
-            depths = [6500] * cells
+            depths = [6535] * cells
             depths[j] = 6541
             data = late(327, 100, depths, accepted=accepted)
             write("bad.channel", data)
+            allowed, calm = hasty_mend(327, 6541, 100)
             says = "pathpetal: bad.channel: refused, number 26: the time step is too long for the deepest cell: 100 ms, " \
-                "with cells of 327 mm and a depth of 6,541 mm\npathpetal: to mend: make it again from its survey, with " \
-                f"{hasty_mend(327, 6541, 100)}\n"
+                f"with cells of 327 mm and a depth of 6,541 mm in cell {j + 1}\npathpetal: to mend: make it again from " \
+                f"its survey, with {allowed}\n{calm}\n"
             for line in (("run", "bad.channel", "-o", "bad.end"), ("show", "bad.channel", "--svg", "bad.svg"),
                 ("check", "bad.channel"), ("check", "bad.channel", "--complete")):
                 before = listing()

@@ -81,7 +81,7 @@ def fault(rows, width, step):
     if 9810 * deepest * step * step > 6000000 * width * width:
         return 26, "depth_mm", depths.index(deepest), "the time step is too long for the deepest cell: " \
             f"{step} ms, with cells of {width:,} mm and a depth of {deepest:,} mm", \
-            f"take {hasty_mend(width, deepest, step)}"
+            "take {}; or correct that depth, if it is wrong\n{}".format(*hasty_mend(width, deepest, step))
     for j, depth in enumerate(depths):
         if steep(depths, j, width):
             beside = " and ".join(f"{depths[k]:,}" for k in (j - 1, j + 1) if 0 <= k < len(depths))
@@ -114,10 +114,12 @@ def refused_cells():
             go("make", "bad.csv", "-o", "bad.channel", *counts, name=name)
             return forget("bad.channel")
         number, column, j, words, mend = wrong
-        place = f"; the deepest is cell {j + 1}" if number == 26 else f", in cell {j + 1}"
         seen.setdefault(number, set()).add("first" if j == 0 else "last" if j == len(rows) - 1 else "middle")
-        says = f"pathpetal: bad.csv: line {at[j + 1]}, column {order.index(column) + 1} ({column}): {words} " \
-            f"(refused, number {number}{place})\npathpetal: to mend: {mend}\npathpetal: nothing is written\n"
+        says = f"line {at[j + 1]}, column {order.index(column) + 1} ({column}): {words} (refused, number {number}, in " \
+            f"cell {j + 1})"
+        if number == 26:
+            says = f"refused, number 26: {words} in cell {j + 1}, on line {at[j + 1]}"
+        says = f"pathpetal: bad.csv: {says}\npathpetal: to mend: {mend}\npathpetal: nothing is written\n"
         go("make", "bad.csv", "-o", "bad.channel", *counts, status=REFUSED, name=name, says=f"^{re.escape(says)}$")
         return check(listing() == before, f"{name}: something was written or changed")
 
