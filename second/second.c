@@ -26,6 +26,10 @@ enum {
 #define WAVE_MOST (e_MOST - e_LEAST)
 #define RECORD_MOST INT64_C(1000000)
 
+/* A time step is too long where 9,810·h·T² is more than 6,000,000·X². */
+#define PER_DEPTH 9810
+#define PER_WIDTH 6000000
+
 /* Each number that is rounded, with the name of the place that rounds it. A
    source that takes this one in may look at the numbers by macros of its own. */
 #ifndef QUOTIENT_AT
@@ -218,6 +222,14 @@ static unsigned lowest_dry(struct work *k, const int64_t *h, const int64_t *e, s
     return lowest(k->H, N, H_LEAST, H_MOST);
 }
 
+/* Whether the time step is too long for a depth: a whole h is more than
+   6,000,000·X² / (9,810·T²) exactly when it is more than its whole part. */
+static bool too_long(const struct second_channel *channel)
+{
+    uint64_t X = channel->X, T = channel->T, deepest = PER_WIDTH * X * X / (PER_DEPTH * T * T);
+    return !row_within(channel->h.at, channel->h.len, 1, (int64_t)deepest);
+}
+
 /* The lowest row that is not dominant, or 0. */
 static unsigned lowest_weak(const struct work *k)
 {
@@ -255,20 +267,22 @@ static void put_bed(struct work *k, const int64_t *h, size_t N, uint64_t X)
     k->c[N - 1] = 0;
 }
 
-/* Water depth and dominance of a channel whose values are allowed. */
+/* Water depth, time step and dominance of a channel whose values are allowed. */
 static struct second_answer water_refusal(struct work *k, const struct second_channel *channel)
 {
     size_t N = (size_t)channel->N;
     unsigned place = lowest_dry(k, channel->h.at, channel->e.at, N);
     if (place)
         return refusal(4, 0, place);
+    if (too_long(channel))
+        return refusal(26, 0, 0);
     put_bed(k, channel->h.at, N, channel->X);
     place = lowest_weak(k);
     return place ? refusal(5, 0, place) : acceptance(0);
 }
 
 /* The whole of a channel's input, with the values poured if there are any,
-   in the order 1, 2, 31 to 37, 4, 5. */
+   in the order 1, 2, 31 to 37, 4, 26, 5. */
 static struct second_answer input_refusal(struct work *k, const struct second_channel *channel,
                                           const struct second_read_row *s)
 {

@@ -28,6 +28,9 @@ struct second_read_row {
     size_t len;
 };
 
+/* Of the counts and the depths together: a time step for which 9,810·h·T² is more than 6,000,000·X²
+   at the deepest h is too long, and every call that takes the channel then answers 26, after 4 and
+   before 5. */
 struct second_channel {
     uint64_t N, X, T, accepted, wanted;
     struct second_row h, e, u, V; /* N each */

@@ -116,7 +116,7 @@ static void refused(struct rig *rig, enum call which, unsigned number, unsigned 
     check(memcmp(&before, rig, sizeof before) == 0, "a refused call changes nothing");
 }
 
-/* The answer of the input checks: 15 when 1 to 5 let the channel through. */
+/* The answer of the input checks: 15 when all let the channel through. */
 static unsigned input_number(struct rig *rig)
 {
     return call(rig, WRITE).number;
@@ -515,6 +515,7 @@ static void ranges_before_rounding(void)
     check_number(call(&rig, STEP).number, 0, "u below its range by less than a half");
     still(&rig, 8);
     rig.c.X = 10;
+    rig.c.T = 1;
     depths(&rig, 386);
     rig.c.u.at[2] = -2;
     rig.c.u.at[3] = 1719354;
@@ -589,6 +590,7 @@ static void counts(void)
     struct rig rig;
     for (size_t i = 0; i < sizeof at / sizeof *at; i++) {
         still(&rig, 8);
+        depths(&rig, 100);
         rig.c.X = at[i].X;
         rig.c.T = at[i].T;
         rig.c.accepted = at[i].accepted;
@@ -754,11 +756,113 @@ static void lowest_dominance(void)
         refused(&rig, which, 5, 0, 9, "cell 9 not dominant");
 }
 
+/* Still water of 8 cells, one depth and this time step. */
+static void stepping(struct rig *rig, uint64_t X, uint64_t T, int64_t h)
+{
+    still(rig, 8);
+    rig->c.X = X;
+    rig->c.T = T;
+    depths(rig, h);
+}
+
+/* The bound to the last mm and ms: the one equality that can be reached, the tank, the least and
+   the largest numbers, and products that wrap in 32 bits, on both sides. */
+static void time_steps(void)
+{
+    static const struct {
+        uint64_t X, T;
+        int64_t h;
+        unsigned due;
+    } at[] = {
+        {327, 100, 6540, 15},  {327, 100, 6541, 26},   {326, 100, 6540, 26}, {327, 99, 6541, 15},
+        {328, 100, 6541, 15},  {20, 20, 500, 15},      {20, 22, 500, 15},    {20, 23, 500, 26},
+        {19, 22, 500, 26},     {20, 20, 611, 15},      {20, 20, 612, 26},    {10, 1, 20000, 15},
+        {10, 2, 20000, 26},    {10, 100, 6, 15},       {10, 100, 7, 26},     {572, 100, 20000, 15},
+        {571, 100, 20000, 26}, {5000, 100, 20000, 15}, {250, 20, 500, 15},   {200, 80, 1500, 15},
+        {100, 20, 20000, 26},  {100, 50, 3000, 26},
+    };
+    struct rig rig;
+    for (size_t i = 0; i < sizeof at / sizeof *at; i++) {
+        stepping(&rig, at[i].X, at[i].T, at[i].h);
+        check_number(input_number(&rig), at[i].due, "a time step");
+        for (enum call which = MAKE; which <= RUN; which++)
+            if (at[i].due == 26)
+                refused(&rig, which, 26, 0, 0, "a time step that is too long");
+            else
+                check_number(call(&rig, which).number, 0, "a time step that is allowed");
+    }
+}
+
+/* Every width and time step beside the depth at which the products part. */
+static void every_time_step(void)
+{
+    int64_t wrong = 0, refused = 0, allowed = 0;
+    struct rig rig;
+    for (int64_t X = 10; X <= 5000; X += X < 600 ? 1 : 100)
+        for (int64_t T = 1; T <= 100; T++) {
+            int64_t h = 6000000 * X * X / (9810 * T * T) - 1;
+            for (int i = 0; i < 4; i++, h++) {
+                unsigned due = 9810 * h * T * T > 6000000 * X * X ? 26 : 15;
+                if (h < 1 || h > 20000)
+                    continue;
+                stepping(&rig, (uint64_t)X, (uint64_t)T, h);
+                wrong += input_number(&rig) != due;
+                refused += due == 26;
+                allowed += due == 15;
+            }
+        }
+    check_number(wrong, 0, "time steps beside the bound");
+    check(refused > 50000 && allowed > 50000, "on both of its sides");
+}
+
+/* The deepest cell counts wherever it stands, by its depth alone and not by the water over it. */
+static void deepest_cell(void)
+{
+    static const size_t cells[] = {0, 3, 7};
+    struct rig rig;
+    for (size_t i = 0; i < 3; i++)
+        for (int64_t e = -1; e <= 1; e++) {
+            stepping(&rig, 327, 100, 6530);
+            rig.c.h.at[cells[i]] = 6540;
+            for (size_t j = 0; j < 8; j++)
+                rig.c.e.at[j] = e < 0 ? 1000 - 1000 * rig.c.h.at[j] : e * e_MOST;
+            check_number(input_number(&rig), 15, "the deepest cell just allowed");
+            rig.c.h.at[cells[i]] = 6541;
+            for (enum call which = MAKE; which <= WRITE; which++)
+                refused(&rig, which, 26, 0, 0, "the deepest cell alone");
+        }
+}
+
+/* 26 beside the refusals before it and after it. */
+static void time_step_order(void)
+{
+    struct rig rig;
+    stepping(&rig, 20, 23, 500);
+    rig.c.accepted = rig.c.wanted;
+    for (enum call which = MAKE; which <= WRITE; which++)
+        refused(&rig, which, 26, 0, 0, "a complete channel");
+    rig.c.h.at[4] = 100;
+    for (enum call which = MAKE; which <= WRITE; which++)
+        refused(&rig, which, 26, 0, 0, "before a row that is not dominant");
+    rig.c.T = 20;
+    for (enum call which = MAKE; which <= WRITE; which++)
+        refused(&rig, which, 5, 0, 5, "which is told once the time step is allowed");
+    rig.c.T = 23;
+    rig.c.e.at[6] = -499001;
+    for (enum call which = MAKE; which <= WRITE; which++)
+        refused(&rig, which, 4, 0, 7, "after a cell with too little water");
+    ((int64_t *)rig.s.at)[7] = s_MOST + 1;
+    refused(&rig, STEP, 37, 0, 8, "and after what is poured");
+    rig.c.F.at[23] = -F_MOST - 1;
+    for (enum call which = STEP; which <= WRITE; which++)
+        refused(&rig, which, 36, 0, 8, "and after a level");
+}
+
 /* Faults of the input in the order of their refusals. */
 static const struct {
     unsigned number, place;
-} input_faults[] = {{1, 0},  {2, 0},  {31, 9}, {32, 8}, {33, 7}, {34, 6},
-                    {35, 5}, {36, 4}, {37, 3}, {4, 2},  {5, 1}};
+} input_faults[] = {{1, 0},  {2, 0},  {31, 9}, {32, 8}, {33, 7},  {34, 6},
+                    {35, 5}, {36, 4}, {37, 3}, {4, 2},  {26, 0}, {5, 1}};
 
 static void lay(struct rig *rig, unsigned number)
 {
@@ -767,6 +871,7 @@ static void lay(struct rig *rig, unsigned number)
     case 2: rig->c.T = 0; break;
     case 4: rig->c.e.at[1] = -4999500; break;
     case 5: rig->c.h.at[0] = 1000; break;
+    case 26: rig->c.X = 10; break;
     case 31: rig->c.h.at[8] = 0; break;
     case 32: rig->c.e.at[7] = e_MOST + 1; break;
     case 33: rig->c.u.at[6] = u_MOST + 1; break;
@@ -835,7 +940,6 @@ static void stage_order(void)
 {
     struct rig rig;
     still(&rig, 8);
-    rig.c.X = 10;
     rig.c.T = 100;
     rig.c.Q.at[6] = Q_MOST;
     rig.c.F.at[0] = F_MOST;
@@ -927,8 +1031,8 @@ static void filter_refusals(void)
     refused(&rig, FILTER, 4, 0, 8, "filtered water too low in cells 8 and 24");
 }
 
-/* Made channels of 8 cells whose first step is refused above stage 0, or settles late, and how that
-   step ends by each row of the ladder: with the count set to 0, 1 and 2. */
+/* Made channels of 8 cells whose first step is refused above stage 0, or settles late, by a row of
+   the ladder, and how that step ends by each row: with the count set to 0, 1 and 2. */
 static void later_stages(void)
 {
     static const struct {
@@ -941,18 +1045,17 @@ static void later_stages(void)
         {1000, 20, 5000, {0, 292290, -415091, 0, 0, 0, 0, -308990},
          {2882414, -2668180, -1242015, -12196983, -9260103, 7221815, -11060090, 2139932},
          {{4, 1, 5, 0}, {4, 1, 5, 0}, {4, 1, 5, 0}}},
-        {10, 100, 500, {0, -3888, -3872, 0, 0, 0, 3121, -3699},
-         {-85, 90, -73, -77, -53, -12, -56, 78}, {{4, 2, 3, 0}, {4, 2, 3, 0}, {4, 2, 3, 0}}},
-        {10, 50, 500, {0, -33314, 0, 0, -38187, 30469, 38982, 0}, {0},
-         {{4, 3, 2, 0}, {4, 3, 5, 0}, {4, 3, 5, 0}}},
-        {10, 50, 500, {-4413, -2037, 3410, 817, 453, -2259, -1858, 1532}, {0},
-         {{4, 7, 1, 0}, {4, 7, 6, 0}, {4, 9, 8, 0}}},
-        {20, 100, 50, {30726, 33289, 0, 0, 0, 4282, 0, -29261},
-         {30, -64, 58, -73, 97, 54, -31, -87}, {{4, 3, 3, 0}, {4, 6, 2, 0}, {4, 10, 2, 0}}},
-        {50, 50, 5000, {0, 0, 1071}, {93, -46, 2, -75, 66, -10, 6, 53},
+        {20, 100, 24, {-22729, -8944, 2629, 22273, 0, 0, -10306, 10428}, {0},
+         {{4, 2, 3, 0}, {4, 2, 3, 0}, {4, 2, 3, 0}}},
+        {10, 50, 5, {0, 0, 0, 0, 0, 0, 19867}, {13, -15, 2, 4, -10, 0, 11, 14},
+         {{4, 2, 7, 0}, {4, 3, 7, 0}, {4, 3, 7, 0}}},
+        {10, 100, 6, {1466, 1910, 1016, -938, 353, 620, -1113, 1336}, {0},
+         {{4, 3, 4, 0}, {4, 5, 2, 0}, {4, 9, 2, 0}}},
+        {20, 50, 2, {0, 28200}, {0}, {{4, 6, 2, 0}, {4, 8, 2, 0}, {4, 10, 2, 0}}},
+        {10, 100, 6, {-248, 207, -206, 46, 61, 22, -202, -172}, {0},
          {{4, 10, 2, 0}, {10, 10, 0, 0}, {10, 10, 0, 0}}},
-        {10, 100, 10, {0, 0, 0, 2213, 0, 1947}, {0},
-         {{4, 7, 2, 0}, {4, 10, 4, 0}, {10, 10, 0, 0}}},
+        {10, 100, 5, {155, 172, -1713, 12, 123, 1346, 952, 592},
+         {62, 22, -90, -95, 15, 26, 87, -6}, {{4, 6, 5, 0}, {4, 10, 5, 0}, {10, 10, 0, 0}}},
         {20, 1, 10, {3969, 2306, 0, 0, 0, 4398, 0, -4457},
          {-14100142, -2556690, -3845716, -8777915, -1990699, -5699096, -4790484, 7074583},
          {{7, 1, 0, 0}, {7, 1, 0, 0}, {7, 1, 0, 0}}},
@@ -968,20 +1071,31 @@ static void later_stages(void)
         {1000, 50, 50, {2019, 8887, 5467, 1384, 2541, 0, -772},
          {-5712632, 11238844, 1256389, 12286878, -10042764, 1546654, 7362928, 10340822},
          {{7, 2, 0, 0}, {7, 4, 0, 0}, {0, 0, 0, 8}}},
-        {20, 100, 20000, {37313, 75026, -101476, 0, 0, 0, 105057, -126512}, {0},
-         {{8, 1, 0, 0}, {8, 1, 0, 0}, {8, 1, 0, 0}}},
-        {10, 5, 20000, {0, 4723546, 2865440, 0, -7277654, -853775, 0, -9896626}, {0},
-         {{8, 1, 0, 0}, {8, 5, 0, 0}, {8, 5, 0, 0}}},
-        {100, 50, 20000, {10307233, 0, -651964, -13517750, 0, 3623212, 0, 0},
-         {60, 77, -47, -73, 25, -41, -82, -41}, {{8, 2, 0, 0}, {8, 4, 0, 0}, {8, 10, 0, 0}}},
-        {100, 50, 20000, {0, 0, -38510, 0, 2185, 0, 8391, 13009},
-         {27, -30, -42, -18, 14, 97, -52, -98}, {{8, 6, 0, 0}, {8, 10, 0, 0}, {10, 10, 0, 0}}},
-        {200, 100, 20000, {0, 18392, 0, 0, 45133}, {-7, 62, -70, -57, 13, -67, -67, -35},
-         {{8, 10, 0, 0}, {10, 10, 0, 0}, {10, 10, 0, 0}}},
-        {20, 100, 20000, {0, -52574, -46709, 52539, 0, 89025, 101402, 0}, {0},
-         {{8, 1, 0, 0}, {8, 1, 0, 0}, {9, 2, 0, 0}}},
-        {20, 100, 20000, {-79650, -17937, 26359, -51617, 0, 0, -20441}, {0},
-         {{9, 2, 0, 0}, {9, 2, 0, 0}, {8, 3, 0, 0}}},
+        {100, 50, 10, {0, 0, 0, 0, 0, 0, 629994},
+         {7786, -6858, 5282, -4285, -612, 2942, 3932, 530},
+         {{7, 6, 0, 0}, {7, 9, 0, 0}, {10, 10, 0, 0}}},
+        {66, 92, 200,
+         {18994485, 19012783, 18909448, 19098751, 18922329, 18996228, 18951290, 18998396}, {0},
+         {{8, 1, 0, 0}, {8, 3, 0, 0}, {8, 3, 0, 0}}},
+        {69, 80, 200,
+         {18963918, 19000238, 18993655, 18982482, 18971687, 18943007, 18980364, 19042805}, {0},
+         {{8, 1, 0, 0}, {8, 2, 0, 0}, {8, 3, 0, 0}}},
+        {86, 83, 600,
+         {19252759, 19199877, 19106419, 19113914, 18879429, 19084253, 18915020, 18728483}, {0},
+         {{8, 2, 0, 0}, {8, 5, 0, 0}, {8, 9, 0, 0}}},
+        {80, 76, 600,
+         {19121756, 18979226, 18936159, 18977265, 19053400, 19129558, 19111130, 19046150}, {0},
+         {{8, 5, 0, 0}, {8, 10, 0, 0}, {10, 10, 0, 0}}},
+        {58, 69, 200,
+         {19000000, 19000000, 19000000, 18999999, 19000000, 18999999, 18999999, 19000001},
+         {1, 0, 1, 0, 1, 1, -1, -1}, {{8, 10, 0, 0}, {10, 10, 0, 0}, {10, 10, 0, 0}}},
+        {2136, 2, 17400, {13312, 838, 1817, 24533, -1440, -17047, -6289, -9891},
+         {-2904947, 15861674, -15515061, -4159357, -11553769, -5628336, -10200327, 775753},
+         {{9, 1, 0, 0}, {9, 1, 0, 0}, {9, 2, 0, 0}}},
+        {1177, 3, 12700,
+         {1580950, 1429200, -733311, 1683188, -1495755, -236731, -1349259, -1754309},
+         {5658941, -2437697, -1120905, 10316684, -9533139, 5539232, 3754489, -2905648},
+         {{9, 1, 0, 0}, {9, 2, 0, 0}, {0, 0, 0, 2}}},
     };
     struct rig rig;
     for (size_t i = 0; i < sizeof at / sizeof *at; i++)
@@ -998,7 +1112,7 @@ static void later_stages(void)
             if (due->number)
                 refused(&rig, STEP, due->number, due->stage, due->place, "a later stage");
             else
-                check_accepted(call(&rig, STEP), due->count, "a step that settles late");
+                check_accepted(call(&rig, STEP), due->count, "a step that settles by that row");
         }
 }
 
@@ -1378,6 +1492,8 @@ static void file_order(void)
     for (size_t j = 0; j < 8; j++)
         put(bytes + 48 + 4 * j, j == 4 ? 1000 : 2100, 4);
     file_refused(bytes, len, 5, 5, "a file not dominant");
+    put(bytes + 8, 20, 4);
+    file_refused(bytes, len, 26, 0, "a file whose time step is too long");
     put(bytes + 80, (uint64_t)(999 - 2100000), 4);
     file_refused(bytes, len, 4, 1, "a file with too little water");
     put(bytes + 344 + 23 * 8, (uint64_t)(F_MOST + 1), 8);
@@ -1441,6 +1557,24 @@ static void file_lent_rows(void)
     still(&rig, 8);
     rig.c.N = 77;
     check_accepted(second_read(bytes, 536, &rig.c), 0, "the lent channel's N is not read");
+}
+
+/* Files, which no writer gives, whose time step is too long by one ms, or by one mm of a depth. */
+static void file_time_step(void)
+{
+    struct rig rig;
+    uint8_t bytes[536];
+    stepping(&rig, 20, 22, 500);
+    check_accepted(second_write(&rig.c, bytes, 536), 0, "the longest time step is written");
+    check_accepted(second_read(bytes, 536, &rig.c), 0, "and read");
+    bytes[12] = 23;
+    file_refused(bytes, 536, 26, 0, "a file one ms above it");
+    stepping(&rig, 500, 100, 15280);
+    rig.c.h.at[7] = 15290;
+    check_accepted(second_write(&rig.c, bytes, 536), 0, "the deepest last cell is written");
+    check_accepted(second_read(bytes, 536, &rig.c), 0, "and read");
+    put(bytes + 48 + 7 * 4, 15291, 4);
+    file_refused(bytes, 536, 26, 0, "a file whose last cell is one mm deeper");
 }
 
 static void printed(void)
@@ -1710,6 +1844,13 @@ static void gauge_order(void)
     gauge_refused(&g, PLACE, 0, 0, 2, "the channel's own refusal before all");
     gauge_refused(&g, FEED, 0, 0, 2, "the channel's own refusal before all");
     gauges_of(&g, 8);
+    g.rig.c.X = 571;
+    g.rig.c.T = 100;
+    gauge_refused(&g, PLACE, SECOND_STATE, 1, 26, "a gauge where the time step is too long");
+    gauge_refused(&g, FEED, SECOND_STATE, 0, 26, "gauges fed where it is too long");
+    gauge_refused(&g, PLACE, 0, 0, 26, "which comes before the state");
+    gauge_refused(&g, FEED, 0, 0, 26, "which comes before the state");
+    gauges_of(&g, 8);
     gauge_refused(&g, TELL, SECOND_STATE, 0, 15, "room for 47 readings");
     g.rig.c.e.at[4] = -19999001;
     check_answer(gauge_call(&g, FEED, 0, 0), 4, 0, 5, 0, "the channel's refusal has its place");
@@ -1766,6 +1907,10 @@ int main(void)
     two_values();
     water();
     lowest_dominance();
+    time_steps();
+    every_time_step();
+    deepest_cell();
+    time_step_order();
     input_order();
     poured_order();
     complete_order();
@@ -1787,6 +1932,7 @@ int main(void)
     file_order();
     file_offsets();
     file_lent_rows();
+    file_time_step();
     printed();
     whole_records();
     longest_record();
