@@ -1,6 +1,6 @@
 /* The library and the second program on the same calls: answers and every lent value equal to the bit.
-   usage: calls [CALLS]   prints how often each refusal, stage, k, tie, place and start occurred, all of which must, and
-                          last 'N passed, M failed'
+   usage: calls [CALLS]   prints how often each refusal, stage, k, tie, place, time step at its bound and start
+                          occurred, all of which must, and last 'N passed, M failed'
           calls CALLS some   the same calls, but too few of them for all of that to occur
           calls scenes COUNT   draws that many scenes with the second program alone, and prints the first three in
                                which each refusal occurs */
@@ -151,7 +151,6 @@ static long placed[KINDS][NUMBERS][WHENS][COLUMNS];
 /* How often a step or a run was refused for a level that its first row of weights has no weight for. */
 static long unweighed[KINDS][NUMBERS][RUNGS];
 
-static bool has_place(uint64_t number) { return number == 4 || number == 5 || number > 30; }
 static bool has_levels(int number) { return number == 35 || number == 36; }
 
 static void count_place(long *at, uint64_t place, size_t places)
@@ -171,17 +170,72 @@ static void count_input(enum kind kind, const struct call *c, const struct searc
     at[ROW_SEVERAL] += faults > 1;
     for (const struct searched *s = told + 1; s < end; s++) {
         uint64_t place = lowest_of(s);
-        bool lower = place && place < a.place, same_row = s->number == told->number;
+        bool lower = place && has_place(s->number) && place < a.place, same_row = s->number == told->number;
         later |= lower && !same_row;
         older |= lower && same_row;
         level |= place && same_row;
         faults += faults_in(s);
     }
-    count_place(at, a.place, told->len);
+    if (a.place)
+        count_place(at, a.place, told->len);
     at[SEVERAL] += faults > 1;
     at[LATER_LOWER] += later;
     at[TWO_LEVELS] += level;
     at[OLDER_LOWER] += older;
+}
+
+/* What calls had to do with the bound of the time step. Refused for it: one mm less deep, one ms less or one mm wider
+   would have been allowed; the first cell, one between or the last alone is too deep; the mean of the depths is not;
+   the water of no cell is; the products modulo 2^32 are not; a row is not dominant; the channel is complete. Allowed:
+   one mm deeper, one ms more or one mm narrower would have been refused; both products are equal; the water of a cell
+   is too deep; the products modulo 2^32 are; then a row is not dominant. And refused for a dry cell before both. */
+enum { LONG_h, LONG_T, LONG_X, LONG_FIRST, LONG_BETWEEN, LONG_LAST, LONG_MEAN, LONG_WATER, LONG_BITS, LONG_WEAK,
+       LONG_COMPLETE, DUE_h, DUE_T, DUE_X, DUE_EQUAL, DUE_WATER, DUE_BITS, DUE_WEAK, DRY_LONG_WEAK, TIMES };
+static const char *const times[TIMES] = {
+    "26 by one mm of depth", "26 by one ms", "26 by one mm of width", "26 for the first cell alone",
+    "26 for one between alone", "26 for the last cell alone", "26, not by the mean depth", "26, not by the water",
+    "26, not by 32 bits", "26 before 5", "26 of a complete channel", "allowed by one mm of depth", "allowed by one ms",
+    "allowed by one mm of width", "allowed, equal", "allowed, not by the water", "allowed, not by 32 bits",
+    "allowed, then 5", "4 before 26 and 5",
+};
+static long timed[KINDS][TIMES];
+
+/* How often each refusal of the input was told before 26. */
+static long before_26[KINDS][NUMBERS];
+
+/* Counts a call that is refused for its time step, or for none of what is asked before it or with it. by_time are the
+   depths that the time step is too long for, and behind them the rows that are not dominant. */
+static void count_time(enum kind kind, const struct call *c, const struct searched *by_time)
+{
+    int64_t X = (int64_t)c->X, T = (int64_t)c->T, h = 0, sum = 0, water = 0;
+    long *at = timed[kind];
+    for (size_t j = 0; j < c->N; j++) {
+        int64_t depth = c->row[ROW_h][j], over = (1000 * depth + c->row[ROW_e][j]) / 1000;
+        h = depth > h ? depth : h;
+        water = over > water ? over : water;
+        sum += depth;
+    }
+    bool bits = (uint32_t)(9810 * h * T * T) > (uint32_t)(6000000 * X * X), weak = lowest_of(by_time + 1) != 0;
+    if (!lowest_of(by_time)) {
+        at[DUE_h] += h < 20000 && too_long(h + 1, X, T);
+        at[DUE_T] += T < 100 && too_long(h, X, T + 1);
+        at[DUE_X] += X > 10 && too_long(h, X - 1, T);
+        at[DUE_EQUAL] += 9810 * h * T * T == 6000000 * X * X;
+        at[DUE_WATER] += too_long(water, X, T);
+        at[DUE_BITS] += bits;
+        at[DUE_WEAK] += weak;
+        return;
+    }
+    at[LONG_h] += !too_long(h - 1, X, T);
+    at[LONG_T] += !too_long(h, X, T - 1);
+    at[LONG_X] += !too_long(h, X + 1, T);
+    if (faults_in(by_time) == 1)
+        at[lowest_of(by_time) == 1 ? LONG_FIRST : lowest_of(by_time) == c->N ? LONG_LAST : LONG_BETWEEN]++;
+    at[LONG_MEAN] += 9810 * sum * T * T <= 6000000 * X * X * (int64_t)c->N;
+    at[LONG_WATER] += !too_long(water, X, T);
+    at[LONG_BITS] += !bits;
+    at[LONG_WEAK] += weak;
+    at[LONG_COMPLETE] += kind != MAKE && c->accepted == c->wanted;
 }
 
 /* Counts a refusal 4 of a stage; the channel left is the one whose step or filter pass was refused. */
@@ -204,9 +258,16 @@ static bool count_places(enum kind kind, const struct call *c, struct answer a, 
     find_faults(kind, c, rows);
     while (told < end && !lowest_of(told))
         told++;
+    const struct searched *by_time = end - 2;
+    if (told >= by_time)
+        count_time(kind, c, by_time);
+    else if (lowest_of(by_time))
+        before_26[kind][told->number]++;
+    timed[kind][DRY_LONG_WEAK] += told == by_time - 1 && lowest_of(by_time) && lowest_of(by_time + 1);
     if (told < end) {
         count_input(kind, c, told, end, a);
-        return a.number == told->number && a.place == lowest_of(told) && a.stage == 0 && a.count == 0;
+        uint64_t place = has_place(told->number) ? lowest_of(told) : 0;
+        return a.number == told->number && a.place == place && a.stage == 0 && a.count == 0;
     }
     if (a.number == 4)
         count_stage(kind, left, a);
@@ -311,8 +372,13 @@ static void one_scene(struct call *c)
         go_on(c);
         break;
     case 11:
-        if (at_the_brink(c))
-            compare(STEP, c);
+        if (one_in(4)) {
+            enum kind kind = (enum kind)PICK(STEP, FILTER, RUN);
+            just_too_rough(c, kind);
+            compare(kind, c);
+        } else if (at_the_brink(c)) {
+            compare(one_in(4) ? RUN : STEP, c);
+        }
         break;
     case 12:
         if (moved_halves(c))
@@ -356,10 +422,21 @@ static void fault_scene(struct call *c, uint64_t i)
     compare(kind, c);
 }
 
+/* Calls at the bound of the time step, likewise. */
+static void bound_scene(struct call *c, uint64_t i)
+{
+    state = i * 0xA0761D6478BD642Fu;
+    filtered = false;
+    enum kind kind = (enum kind)(draw() % KINDS);
+    at_the_bound(c, kind);
+    compare(kind, c);
+}
+
 /* Whether a refusal is known to occur in a call at a stage. */
 static bool occurs(enum kind kind, int number, int stage)
 {
-    bool input = number == 1 || number == 2 || number == 4 || number == 5 || (number > 30 && reads(kind, number - 31));
+    bool input = number == 1 || number == 2 || number == 4 || number == 5 || number == 26 ||
+                 (number > 30 && reads(kind, number - 31));
     bool stages = number == 4 || number == 7 || number == 8 || number == 9;
     switch (kind) {
     case MAKE: return stage == 0 && (input || number == 7 || number == 9);
@@ -431,6 +508,62 @@ static bool places_seen(void)
                         printf("no place of %s refused %d %s: %s\n", names[kind], number, whens[when], columns[column]);
                         all = false;
                     }
+    return all;
+}
+
+/* Whether a call must have been met so: make reads no count of accepted steps. */
+static bool time_occurs(enum kind kind, int time) { return time != LONG_COMPLETE || kind != MAKE; }
+
+/* Whether a refusal must have been told before 26. */
+static bool occurs_before_26(enum kind kind, int number)
+{
+    return number == 4 || (number > 30 && reads(kind, number - 31));
+}
+
+/* Calls by their time steps. */
+static void print_times(void)
+{
+    printf("%-32s", "time steps");
+    for (int kind = 0; kind < KINDS; kind++)
+        printf("%8s", names[kind]);
+    printf("\n");
+    for (int time = 0; time < TIMES; time++) {
+        printf("%-32s", times[time]);
+        for (int kind = 0; kind < KINDS; kind++)
+            if (time_occurs((enum kind)kind, time))
+                printf("%8ld", timed[kind][time]);
+            else
+                printf("%8s", "");
+        printf("\n");
+    }
+    for (int number = 4; number < NUMBERS; number++) {
+        if (!occurs_before_26(STEP, number))
+            continue;
+        printf("%2d %-29s", number, "before 26");
+        for (int kind = 0; kind < KINDS; kind++)
+            if (occurs_before_26((enum kind)kind, number))
+                printf("%8ld", before_26[kind][number]);
+            else
+                printf("%8s", "");
+        printf("\n");
+    }
+}
+
+static bool times_seen(void)
+{
+    bool all = true;
+    for (int kind = 0; kind < KINDS; kind++) {
+        for (int time = 0; time < TIMES; time++)
+            if (time_occurs((enum kind)kind, time) && !timed[kind][time]) {
+                printf("no time step of %s: %s\n", names[kind], times[time]);
+                all = false;
+            }
+        for (int number = 4; number < NUMBERS; number++)
+            if (occurs_before_26((enum kind)kind, number) && !before_26[kind][number]) {
+                printf("%s was never refused %d before 26\n", names[kind], number);
+                all = false;
+            }
+    }
     return all;
 }
 
@@ -558,9 +691,9 @@ static void scene_number(struct call *c, uint64_t i)
     one_scene(c);
 }
 
-/* Scenes whose ends are rare: 9 late in a step, in a filter pass and in a run. */
-static const uint64_t rare[] = {49551, 51669, 57242, 59386, 68038, 71182, 71648, 164859, 179809,
-                                184059, 216210, 223569, 239610, 279000, 320510, 351732, 520092};
+/* Scenes whose ends are rare: 9 late in a step. */
+static const uint64_t rare[] = {52035, 71225, 81333, 166917, 171256, 195813, 209198, 213753, 227602, 240425,
+                                296768, 310096, 324187, 335467, 346703, 574981, 639247, 767577, 975268};
 
 int main(int argc, char **argv)
 {
@@ -581,6 +714,8 @@ int main(int argc, char **argv)
         scene_number(&c, i);
         if (i % 4 == 0)
             fault_scene(&c, i);
+        if (i % 10 == 0)
+            bound_scene(&c, i);
     }
     for (int kind = 0; kind < KINDS; kind++)
         for (int number = 1; number < NUMBERS; number++)
@@ -590,11 +725,14 @@ int main(int argc, char **argv)
     for (int k = 1; k <= 10; k++)
         printf("step settled at correction %2d: %8ld\n", k, settled_at[k]);
     print_places();
+    print_times();
     print_starts();
     print_ties();
     if (!some && !seen())
         failed++;
     if (!some && !places_seen())
+        failed++;
+    if (!some && !times_seen())
         failed++;
     if (!some && !starts_seen())
         failed++;

@@ -1,5 +1,5 @@
 /* Calls with faults at drawn places, and where the faults of a call's input lie: values outside their ranges, cells with
-   too little water, rows that are not dominant. */
+   too little water or too deep for the time step, rows that are not dominant. */
 #ifndef FAULTS_H
 #define FAULTS_H
 
@@ -42,7 +42,7 @@ static void put_outside(struct call *c, int row)
 static void put_dry(struct call *c)
 {
     size_t j = any_place((size_t)c->N);
-    int64_t e = 1000 - 1000 * c->row[ROW_h][j] - magnitude(1000000);
+    int64_t h = c->row[ROW_h][j], e = 1000 - 1000 * (in_range(ROW_h, h) ? h : 0) - magnitude(1000000);
     c->row[ROW_e][j] = e < -20000000 ? -20000000 : e;
 }
 
@@ -53,8 +53,22 @@ static void put_dip(struct call *c, int64_t depth)
     c->row[ROW_h][j] = depth / 5;
 }
 
+/* A time step that is too long: for one cell that is deeper than the others, or for all of the depth. */
+static void put_long(struct call *c, int64_t depth)
+{
+    int64_t over = deepest((int64_t)c->X, (int64_t)c->T) + 1;
+    size_t j = any_place((size_t)c->N);
+    if (one_in(2) && over <= 20000) {
+        c->row[ROW_h][j] = one_in(2) ? over : between(over, 20000);
+        return;
+    }
+    c->T = (uint64_t)between(50, 100);
+    uint64_t X = (uint64_t)narrowest(depth, (int64_t)c->T) - 1;
+    c->X = X < c->X ? X : c->X;
+}
+
 /* What is put at fault: a row, or one of these. */
-enum { FAULT_DRY = ROWS, FAULT_DIP, FAULTS };
+enum { FAULT_DRY = ROWS, FAULT_LONG, FAULT_DIP, FAULTS };
 
 static int any_fault(enum kind kind)
 {
@@ -72,7 +86,7 @@ static void faulty(struct call *c, enum kind kind)
     int64_t count = PICK(1, 1, 2, 3, 4);
     int fault = any_fault(kind);
     lengths(c, one_in(6) ? (size_t)PICK(255, 256) : (size_t)between(8, 14));
-    c->X = (uint64_t)X, c->T = (uint64_t)between(1, 100), c->wanted = (uint64_t)between(1, 5);
+    c->X = (uint64_t)X, c->T = (uint64_t)between(1, longest(depth, X)), c->wanted = (uint64_t)between(1, 5);
     c->accepted = one_in(3) ? c->wanted : open_start(c->wanted);
     for (size_t j = 0; j < c->N; j++) {
         c->row[ROW_h][j] = depth;
@@ -84,6 +98,8 @@ static void faulty(struct call *c, enum kind kind)
     for (int64_t i = 0; i < count; i++) {
         if (fault == FAULT_DRY)
             put_dry(c);
+        else if (fault == FAULT_LONG)
+            put_long(c, depth);
         else if (fault == FAULT_DIP)
             put_dip(c, depth);
         else
@@ -93,13 +109,55 @@ static void faulty(struct call *c, enum kind kind)
     }
 }
 
+/* A channel at the bound of its time step, or one ms or one mm beyond it: by its depth, its time step or its width
+   beside the two others. All cells are so deep, or one of them alone. The water is high, low or between. Some are
+   complete, and some have faults that come before or after. */
+static void at_the_bound(struct call *c, enum kind kind)
+{
+    int64_t X, T, h, beyond = one_in(2), still, noise = magnitude(2000), row;
+    do {
+        X = 10 + magnitude(990), T = between(1, 100), h = 1 + magnitude(19999);
+        switch (draw() % 3) {
+        case 0: h = deepest(X, T) + beyond; break;
+        case 1: T = longest(h, X) + beyond; break;
+        default: X = narrowest(h, T) - beyond; break;
+        }
+        if (one_in(16))
+            X = 327, T = 100, h = 6540 + beyond; /* the one equality, or beyond it */
+    } while (h > 20000 || T > 100 || X < 10 || too_long(h, X, T) != beyond);
+    int64_t less = one_in(2) ? 0 : 1 + X * X / (2 * h); /* so much that the rows are just dominant, or just not */
+    less = less < h ? less : h - 1;
+    still = one_in(2) ? between(1000 - 1000 * h, 20000000) : PICK(0, 1000 - 1000 * h, 20000000);
+    lengths(c, one_in(10) ? (size_t)between(8, 256) : (size_t)between(8, 14));
+    for (int i = 0; i < ROWS; i++)
+        memset(c->row[i], 0, c->len[i] * sizeof(int64_t));
+    c->X = (uint64_t)X, c->T = (uint64_t)T, c->wanted = (uint64_t)between(1, 5);
+    c->accepted = one_in(4) ? c->wanted : open_start(c->wanted);
+    if (one_in(3))
+        any_levels(c);
+    for (size_t j = 0; j < c->N; j++)
+        c->row[ROW_h][j] = h - less;
+    c->row[ROW_h][any_place((size_t)c->N)] = h;
+    for (size_t j = 0; j < c->N; j++)
+        c->row[ROW_e][j] = wetted(c->row[ROW_h][j], still + between(-noise, noise));
+    if (one_in(4))
+        put_dry(c);
+    if (one_in(4) && h >= 5)
+        put_dip(c, h);
+    do
+        row = between(0, ROWS - 1);
+    while (!reads(kind, (int)row));
+    if (one_in(4))
+        put_outside(c, (int)row);
+}
+
 /* Water of which some cells are as low as allowed, and fall dry: in a step by what is poured, by the prediction's
    movement or by the first correction's, in a run by movement, in a filter pass by their neighbours. By the first row
    of weights no levels move only in a correction. */
 static void drying(struct call *c, enum kind kind)
 {
-    int64_t depth = between(1, 20000), high = magnitude(20000000), X = between(10, 5000), T = PICK(1, 10, 50, 100);
-    int64_t unit = 1000000 * X / T; /* levels that are all one unit move 1 */
+    int64_t high = magnitude(20000000), X = between(10, 5000), T = PICK(1, 10, 50, 100);
+    int64_t depth = between(1, deepest(X, T)), unit = 1000000 * X / T; /* levels that are all one unit move 1 */
     bool poured = kind == STEP && one_in(2), late = one_in(2);
     int rung;
     lengths(c, one_in(10) ? (size_t)between(8, 256) : (size_t)between(8, 14));
@@ -126,19 +184,26 @@ static void drying(struct call *c, enum kind kind)
     }
 }
 
-/* A row as it is searched for faults; the levels are three, and the water depths and the dominant rows two more. */
+/* A row as it is searched for faults; the levels are three, and the water depths, the depths that the time step is too
+   long for, and the dominant rows three more. */
 struct searched {
     unsigned number;
     int level;
     size_t len;
     bool at[CELLS];
 };
-enum { SEARCHED = 13 };
+enum { SEARCHED = 14 };
 
 static bool dry_at(const struct call *c, size_t j)
 {
     int64_t h = c->row[ROW_h][j], e = c->row[ROW_e][j];
     return in_range(ROW_h, h) && in_range(ROW_e, e) && 1000 * h + e < 1000;
+}
+
+static bool long_at(const struct call *c, size_t j)
+{
+    int64_t h = c->row[ROW_h][j];
+    return in_range(ROW_h, h) && too_long(h, (int64_t)c->X, (int64_t)c->T);
 }
 
 /* Whether row j, of depths in range, is not dominant. A wall drops the coefficient beside it and adds to the row's own. */
@@ -169,15 +234,18 @@ static void find_faults(enum kind kind, const struct call *c, struct searched *s
             for (size_t j = 0; j < s->len; j++)
                 s->at[j] = !in_range(row, c->row[row][level * s->len + j]);
         }
-    s[0].number = 4, s[1].number = 5;
-    s[0].len = s[1].len = (size_t)c->N;
+    s[0].number = 4, s[1].number = 26, s[2].number = 5;
+    s[0].len = s[1].len = s[2].len = (size_t)c->N;
     for (size_t j = 0; j < c->N; j++) {
         s[0].at[j] = dry_at(c, j);
-        s[1].at[j] = weak_at(c, j);
+        s[1].at[j] = long_at(c, j);
+        s[2].at[j] = weak_at(c, j);
     }
 }
 
-/* The lowest place with a fault, counted from 1, or 0. */
+static bool has_place(uint64_t number) { return number == 4 || number == 5 || number > 30; }
+
+/* The lowest place with a fault, counted from 1, or 0. Of 26 it is the first cell that is too deep, and not told. */
 static uint64_t lowest_of(const struct searched *s)
 {
     for (size_t j = 0; j < s->len; j++)

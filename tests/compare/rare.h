@@ -6,17 +6,19 @@
 #include "ladder.h"
 #include "ties.h"
 
-/* Deep water over narrow cells, with a flux just in range and levels that move nothing: -5/7, -5/7 and 1 of its own Q
+/* Deep water over long steps, with a flux just in range and levels that move nothing: -5/7, -5/7 and 1 of its own Q
    and F, newest first, are 0 in the prediction's sum, and in a correction's they are -9 beside 9 of the trial's. What
    still moves is u's rounding. These are levels for the third row of weights; the first has none, and those for the
    second are out of range. */
 static bool at_the_brink(struct call *c)
 {
     static struct call trial;
-    int64_t low = 0, high = 20000000, shape[14], depth = between(5000, 20000), heights = magnitude(1000000);
-    int64_t noise = magnitude(2000);
-    lengths(c, (size_t)between(8, 14));
-    c->X = (uint64_t)between(50, 190), c->T = (uint64_t)between(56, 100), c->wanted = 5, c->accepted = 0;
+    bool any = one_in(4);
+    int64_t low = 0, high = 20000000, shape[64], depth, heights = magnitude(any ? 1000000 : 100);
+    int64_t noise = any ? magnitude(2000) : between(100, 400);
+    lengths(c, (size_t)between(8, 64));
+    c->X = (uint64_t)between(300, 700), c->T = (uint64_t)between(90, 100), c->wanted = 5, c->accepted = 0;
+    depth = deepest((int64_t)c->X, (int64_t)c->T) * between(any ? 60 : 80, 100) / 100;
     for (size_t j = 0; j < c->N; j++) {
         c->row[ROW_h][j] = depth;
         c->row[ROW_e][j] = between(-heights, heights);
@@ -43,6 +45,32 @@ static bool at_the_brink(struct call *c)
     for (size_t j = 0; j < c->N; j++)
         c->row[ROW_e][j] += between(-noise, noise);
     return true;
+}
+
+/* Deep water over narrow cells whose V is so rough that a flux is just out of its range in a filter pass or in the
+   prediction of a step, or seldom just in it. */
+static void just_too_rough(struct call *c, enum kind kind)
+{
+    static struct call trial;
+    int64_t depth = between(5000, 20000), X = between(10, depth / 20), low = 0, high = 2000000000, shape[14];
+    lengths(c, (size_t)between(8, 14));
+    memset(c->row, 0, sizeof c->row);
+    c->X = (uint64_t)X, c->T = (uint64_t)between(1, longest(depth, X)), c->wanted = 5, c->accepted = open_start(5);
+    for (size_t j = 0; j < c->N; j++)
+        c->row[ROW_h][j] = depth, shape[j] = between(-1000, 1000);
+    while (high - low > 1) {
+        int64_t rough = (low + high) / 2;
+        trial = *c;
+        for (size_t j = 0; j < c->N; j++)
+            trial.row[ROW_V][j] = rough * shape[j] / 1000;
+        struct answer a = second_does(kind, &trial);
+        if (a.number == 9 && a.stage == 0)
+            high = rough;
+        else
+            low = rough;
+    }
+    for (size_t j = 0, less = one_in(4); j < c->N; j++)
+        c->row[ROW_V][j] = (less ? low : high) * shape[j] / 1000;
 }
 
 /* Three levels of entry j, by the row of weights that the next step has: they move q in the prediction, and in a
@@ -86,6 +114,8 @@ static bool moved_halves(struct call *c)
     bool late[ROWS][10]; /* a half in the first correction */
     lengths(c, (size_t)between(8, 10));
     c->X = (uint64_t)(10 + magnitude(4990)), c->T = (uint64_t)T, c->wanted = 5, c->accepted = open_start(5);
+    if (too_long(depth, (int64_t)c->X, T))
+        depth = deepest((int64_t)c->X, T);
     unit[ROW_Q] = 1000000 * (int64_t)c->X / T, unit[ROW_F] = 1000 / T;
     for (size_t j = 0; j < c->N; j++) {
         c->row[ROW_h][j] = depth;
@@ -125,7 +155,8 @@ static bool small_halves(struct call *c)
     int64_t twice[10], Q[7], F[8], sign = PICK(1, -1); /* 2u, with a mirrored cell at each end */
     lengths(c, 8);
     memset(c->row, 0, sizeof c->row);
-    c->X = (uint64_t)between(10, 20), c->T = (uint64_t)between(1, 100), c->wanted = 9, c->accepted = open_start(9);
+    c->X = (uint64_t)between(10, 20), c->wanted = 9, c->accepted = open_start(9);
+    c->T = (uint64_t)between(1, longest(1000 * (int64_t)c->X, (int64_t)c->X));
     for (int j = 0; j < 8; j++)
         twice[j + 1] = 4 * PICK(0, 0, 0, 1, -1) + sign * turn[j];
     twice[0] = -twice[1];
@@ -241,6 +272,7 @@ static void filtered_halves(struct call *c)
         c->row[ROW_e][j] = 128 * between(-heights, heights);
         c->row[ROW_V][j] = 128 * between(-speeds, speeds);
     }
+    shorten(c);
 }
 
 /* Making, with plain parts that are exactly halves (u in sixes), or accelerations (u in six hundreds). */

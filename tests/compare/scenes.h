@@ -115,6 +115,44 @@ static int64_t wetted(int64_t h, int64_t e)
     return 1000 * h + e < 1000 ? 1000 - 1000 * h + between(0, 20) : e;
 }
 
+/* Whether a time step is too long for a depth. */
+static bool too_long(int64_t h, int64_t X, int64_t T) { return 9810 * h * T * T > 6000000 * X * X; }
+
+/* The longest time step, the deepest cell and the narrowest cells that are allowed beside two other numbers; a step of
+   1 ms always is. */
+static int64_t longest(int64_t h, int64_t X)
+{
+    int64_t T = 100;
+    while (too_long(h, X, T))
+        T--;
+    return T;
+}
+
+static int64_t deepest(int64_t X, int64_t T)
+{
+    int64_t h = 6000000 * X * X / (9810 * T * T);
+    return h < 20000 ? h : 20000;
+}
+
+static int64_t narrowest(int64_t h, int64_t T)
+{
+    int64_t X = 10;
+    while (too_long(h, X, T))
+        X++;
+    return X;
+}
+
+/* Shortens a time step that is too long for the depths drawn, but for one scene in 20. */
+static void shorten(struct call *c)
+{
+    int64_t most = 1, T;
+    for (size_t j = 0; j < c->N; j++)
+        most = c->row[ROW_h][j] > most ? c->row[ROW_h][j] : most;
+    T = longest(most, (int64_t)c->X);
+    if ((int64_t)c->T > T && !one_in(20))
+        c->T = (uint64_t)T;
+}
+
 /* Counts, an uneven bottom, heights, velocities and a poured row; V and the levels are what they were. */
 static void scene(struct call *c)
 {
@@ -138,6 +176,7 @@ static void scene(struct call *c)
         c->row[ROW_u][j] = smooth ? -(speeds / period * turn) : between(-speeds, speeds);
         c->row[ROW_s][j] = pours ? between(-pours, pours) : 0;
     }
+    shorten(c);
 }
 
 /* V and levels of any size, that need not belong to the heights. */
@@ -245,6 +284,7 @@ static bool just_too_much(struct call *c)
         c->row[ROW_s][j] = 0;
         shape[j] = between(-1000, 1000);
     }
+    shorten(c);
     while (high - low > 1) {
         int64_t speed = (low + high) / 2;
         trial = *c;
@@ -262,19 +302,27 @@ static bool just_too_much(struct call *c)
     return high < 20000000;
 }
 
-/* Fast water, or shallow water with much poured into a few cells, over long steps: corrections wander, and some leave
-   a range late. */
+/* Fast water, shallow water with much poured into a few cells, or high water over a bottom about as deep as is
+   allowed, over long steps: corrections wander, and some leave a range late. */
 static void violent(struct call *c)
 {
-    bool shallow = one_in(2);
-    int64_t depth = shallow ? 2 + magnitude(200) : PICK(60, 300, 2000, 20000);
+    bool shallow = one_in(2), high = !shallow && one_in(4);
+    int64_t depth = shallow ? 2 + magnitude(200) : PICK(60, 300, 2000, 20000), still = 0, uneven = 8;
     int64_t speeds = shallow ? magnitude(10000) : PICK(1000000, 20000000), heights = shallow ? magnitude(10000) : 100000;
     lengths(c, (size_t)between(8, 12));
     c->X = (uint64_t)(shallow ? PICK(50, 100, 200, 500) : PICK(100, 200, 500, 1000, 2000, 5000));
     c->T = (uint64_t)PICK(20, 50, 100, 100), c->wanted = (uint64_t)PICK(100, 280, 65550), c->accepted = 0;
+    if (high) {
+        c->X = (uint64_t)between(10, 100), c->T = (uint64_t)between(20, 100);
+        depth = deepest((int64_t)c->X, (int64_t)c->T) * between(60, 100) / 100, uneven = 50;
+        still = one_in(2) ? 19000000 : magnitude(19000000);
+        heights = magnitude(300000), speeds = magnitude(2000);
+    } else if (too_long(depth, (int64_t)c->X, (int64_t)c->T) && !one_in(20)) {
+        depth = deepest((int64_t)c->X, (int64_t)c->T);
+    }
     for (size_t j = 0; j < c->N; j++) {
-        c->row[ROW_h][j] = depth - between(0, depth / 8);
-        c->row[ROW_e][j] = wetted(c->row[ROW_h][j], between(-heights, heights));
+        c->row[ROW_h][j] = depth - between(0, depth / uneven);
+        c->row[ROW_e][j] = wetted(c->row[ROW_h][j], still + between(-heights, heights));
         c->row[ROW_u][j] = between(-speeds, speeds);
         c->row[ROW_s][j] = shallow && one_in(6) ? between(0, 1000000) : 0;
     }
