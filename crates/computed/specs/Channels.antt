@@ -372,6 +372,31 @@ step-by-hand =
     (stepCall make-by-hand-after (replicate 8 (pos 0)))
     (answers 0 0 0 3 step-by-hand-after) tt
 
+-- a tank 500 mm deep of cells of 20 mm, with a time step of 20 ms: a Courant number of 2.21, which is allowed
+abbrev make-tank-before : Channel
+make-tank-before =
+    channel 8 20 20 0 10
+    (replicate 8 (pos 500))
+    (pos 0 ∷ pos 0 ∷ pos 0 ∷ pos 0 ∷ pos 0 ∷ pos 0 ∷ pos 0 ∷ pos 1000 ∷ [])
+    (replicate 8 (pos 0))
+    (replicate 8 (pos 0))
+    (replicate 21 (pos 0))
+    (replicate 24 (pos 0))
+
+abbrev make-tank-after : Channel
+make-tank-after =
+    channel 8 20 20 0 10
+    (replicate 8 (pos 500))
+    (make-tank-before .e)
+    (replicate 8 (pos 0))
+    (replicate 8 (pos 0))
+    (replicate 21 (pos 0))
+    (thrice (pos 0 ∷ pos 0 ∷ pos 0 ∷ pos 0 ∷ pos 0 ∷ pos 40875 ∷ minus 286125 ∷ minus 327000 ∷ []))
+
+pub make-tank : makeCall make-tank-before ≡ answers 0 0 0 0 make-tank-after
+unfolding opened
+make-tank = alike channels (makeCall make-tank-before) (answers 0 0 0 0 make-tank-after) tt
+
 -- an early cell falls dry and a later one is too high: the check of heights goes over all cells first
 abbrev filter-too-high-before : Channel
 filter-too-high-before =

@@ -600,3 +600,19 @@ read-into-longer-rows =
     alike channels
     (readCall read-into-longer-rows-before write-uneven-file)
     (answers 1 0 0 0 read-into-longer-rows-before) tt
+
+-- a file whose time step is too long for its depths (26), its cells being said to be 10 mm wide, changes nothing
+abbrev narrow-file : List ℕ
+narrow-file = replaced 8 (10 ∷ 0 ∷ []) write-uneven-file
+
+pub read-too-long : readCall read-into-rows-before narrow-file ≡ answers 26 0 0 0 read-into-rows-before
+unfolding opened
+read-too-long =
+    alike channels
+    (readCall read-into-rows-before narrow-file)
+    (answers 26 0 0 0 read-into-rows-before) tt
+
+-- nor does a run of it, which has accepted no step
+pub file-too-long-run : runForFile 5 narrow-file ≡ answers 26 0 0 0 narrow-file
+unfolding opened
+file-too-long-run = alike (lists counts) (runForFile 5 narrow-file) (answers 26 0 0 0 narrow-file) tt
