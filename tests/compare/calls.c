@@ -428,7 +428,7 @@ static void bound_scene(struct call *c, uint64_t i)
     state = i * 0xA0761D6478BD642Fu;
     filtered = false;
     enum kind kind = (enum kind)(draw() % KINDS);
-    at_the_bound(c, kind);
+    faulty_bound(c, kind);
     compare(kind, c);
 }
 
@@ -691,10 +691,6 @@ static void scene_number(struct call *c, uint64_t i)
     one_scene(c);
 }
 
-/* Scenes whose ends are rare: 9 late in a step. */
-static const uint64_t rare[] = {52035, 71225, 81333, 166917, 171256, 195813, 209198, 213753, 227602, 240425,
-                                296768, 310096, 324187, 335467, 346703, 574981, 639247, 767577, 975268};
-
 int main(int argc, char **argv)
 {
     long calls = argc > 1 ? atol(argv[1]) : 110000;
@@ -708,8 +704,9 @@ int main(int argc, char **argv)
             scene_number(&c, i);
         return 0;
     }
-    for (size_t i = 0; i < sizeof rare / sizeof *rare; i++)
-        scene_number(&c, rare[i]);
+    for (size_t i = 0; i < LATE_BRINKS; i++)
+        if (late_brink(&c, i))
+            compare(STEP, &c);
     for (uint64_t i = 1; passed + failed < calls; i++) {
         scene_number(&c, i);
         if (i % 4 == 0)

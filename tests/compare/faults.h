@@ -23,13 +23,6 @@ static size_t levels_of(int row) { return row == ROW_Q || row == ROW_F ? 3 : 1; 
 /* Whether a call reads the row. */
 static bool reads(enum kind kind, int row) { return row == ROW_s ? kind == STEP : row <= ROW_u || kind != MAKE; }
 
-/* One of n places, counted from 0: the first, the last or another. */
-static size_t any_place(size_t n)
-{
-    uint64_t which = draw() % 3;
-    return which == 0 ? 0 : which == 1 ? n - 1 : (size_t)between(1, (int64_t)n - 2);
-}
-
 static void put_outside(struct call *c, int row)
 {
     size_t levels = levels_of(row), n = c->len[row] / levels, level = draw() % levels, place = any_place(n);
@@ -109,46 +102,21 @@ static void faulty(struct call *c, enum kind kind)
     }
 }
 
-/* A channel at the bound of its time step, or one ms or one mm beyond it: by its depth, its time step or its width
-   beside the two others. All cells are so deep, or one of them alone. The water is high, low or between. Some are
-   complete, and some have faults that come before or after. */
-static void at_the_bound(struct call *c, enum kind kind)
+/* A channel at the bound of its time step or beyond it, some with faults that come before or after that. */
+static void faulty_bound(struct call *c, enum kind kind)
 {
-    int64_t X, T, h, beyond = one_in(2), still, noise = magnitude(2000), row;
-    do {
-        X = 10 + magnitude(990), T = between(1, 100), h = 1 + magnitude(19999);
-        switch (draw() % 3) {
-        case 0: h = deepest(X, T) + beyond; break;
-        case 1: T = longest(h, X) + beyond; break;
-        default: X = narrowest(h, T) - beyond; break;
-        }
-        if (one_in(16))
-            X = 327, T = 100, h = 6540 + beyond; /* the one equality, or beyond it */
-    } while (h > 20000 || T > 100 || X < 10 || too_long(h, X, T) != beyond);
-    int64_t less = one_in(2) ? 0 : 1 + X * X / (2 * h); /* so much that the rows are just dominant, or just not */
-    less = less < h ? less : h - 1;
-    still = one_in(2) ? between(1000 - 1000 * h, 20000000) : PICK(0, 1000 - 1000 * h, 20000000);
-    lengths(c, one_in(10) ? (size_t)between(8, 256) : (size_t)between(8, 14));
-    for (int i = 0; i < ROWS; i++)
-        memset(c->row[i], 0, c->len[i] * sizeof(int64_t));
-    c->X = (uint64_t)X, c->T = (uint64_t)T, c->wanted = (uint64_t)between(1, 5);
-    c->accepted = one_in(4) ? c->wanted : open_start(c->wanted);
-    if (one_in(3))
-        any_levels(c);
-    for (size_t j = 0; j < c->N; j++)
-        c->row[ROW_h][j] = h - less;
-    c->row[ROW_h][any_place((size_t)c->N)] = h;
-    for (size_t j = 0; j < c->N; j++)
-        c->row[ROW_e][j] = wetted(c->row[ROW_h][j], still + between(-noise, noise));
+    at_the_bound(c);
     if (one_in(4))
         put_dry(c);
-    if (one_in(4) && h >= 5)
-        put_dip(c, h);
-    do
-        row = between(0, ROWS - 1);
-    while (!reads(kind, (int)row));
     if (one_in(4))
-        put_outside(c, (int)row);
+        put_dip(c, c->row[ROW_h][0] + 4); /* at least 1 mm */
+    if (one_in(4)) {
+        int fault;
+        do
+            fault = any_fault(kind);
+        while (fault >= ROWS);
+        put_outside(c, fault);
+    }
 }
 
 /* Water of which some cells are as low as allowed, and fall dry: in a step by what is poured, by the prediction's

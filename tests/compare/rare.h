@@ -47,6 +47,19 @@ static bool at_the_brink(struct call *c)
     return true;
 }
 
+/* Seeds of those whose step is refused 9 at the corrections 4 to 10, three for each: of drawn ones it is one in some
+   400. */
+static const uint64_t late_brinks[] = {
+    10202, 10470, 10818, 12263, 14101, 15884, 12984, 16881, 19316, 10162, 12021,
+    12397, 19623, 20317, 21234, 1714,  24719, 27977, 12101, 19960, 35449,
+};
+enum { LATE_BRINKS = sizeof late_brinks / sizeof *late_brinks };
+static bool late_brink(struct call *c, size_t i)
+{
+    state = late_brinks[i] * 0xD1342543DE82EF95u;
+    return at_the_brink(c);
+}
+
 /* Deep water over narrow cells whose V is so rough that a flux is just out of its range in a filter pass or in the
    prediction of a step, or seldom just in it. */
 static void just_too_rough(struct call *c, enum kind kind)

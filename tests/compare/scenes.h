@@ -74,6 +74,13 @@ static int64_t between(int64_t low, int64_t high) { return low + (int64_t)(draw(
 static int64_t pick(const int64_t *from, size_t n) { return from[draw() % n]; }
 #define PICK(...) pick((const int64_t[]){__VA_ARGS__}, sizeof (const int64_t[]){__VA_ARGS__} / sizeof(int64_t))
 
+/* One of n places, counted from 0: the first, the last or another. */
+static size_t any_place(size_t n)
+{
+    uint64_t which = draw() % 3;
+    return which == 0 ? 0 : which == 1 ? n - 1 : (size_t)between(1, (int64_t)n - 2);
+}
+
 /* A bound, one less or one more, above or below zero. */
 static int64_t about(int64_t bound)
 {
@@ -190,6 +197,39 @@ static void any_levels(struct call *c)
         c->row[ROW_Q][j] = alike && j >= c->N - 1 ? c->row[ROW_Q][j % (c->N - 1)] : between(-Q, Q);
     for (size_t j = 0; j < c->len[ROW_F]; j++)
         c->row[ROW_F][j] = alike && j >= c->N ? c->row[ROW_F][j % c->N] : between(-F, F);
+}
+
+/* A channel at the bound of its time step, or one ms or one mm beyond it: by its depth, its time step or its width
+   beside the two others. All cells are so deep, or one of them alone. The water is high, low or between; some are
+   complete. */
+static void at_the_bound(struct call *c)
+{
+    int64_t X, T, h, beyond = one_in(2), noise = magnitude(2000);
+    do {
+        X = 10 + magnitude(990), T = between(1, 100), h = 1 + magnitude(19999);
+        switch (draw() % 3) {
+        case 0: h = deepest(X, T) + beyond; break;
+        case 1: T = longest(h, X) + beyond; break;
+        default: X = narrowest(h, T) - beyond; break;
+        }
+        if (one_in(16))
+            X = 327, T = 100, h = 6540 + beyond; /* the one equality, or beyond it */
+    } while (h > 20000 || T > 100 || X < 10 || too_long(h, X, T) != beyond);
+    int64_t less = one_in(2) ? 0 : 1 + X * X / (2 * h); /* so much that the rows are just dominant, or just not */
+    int64_t low = 1000 - 1000 * h, still = one_in(2) ? between(low, 20000000) : PICK(0, low, 20000000);
+    less = less < h ? less : h - 1;
+    lengths(c, one_in(10) ? (size_t)between(8, 256) : (size_t)between(8, 14));
+    for (int i = 0; i < ROWS; i++)
+        memset(c->row[i], 0, c->len[i] * sizeof(int64_t));
+    c->X = (uint64_t)X, c->T = (uint64_t)T, c->wanted = (uint64_t)between(1, 5);
+    c->accepted = one_in(4) ? c->wanted : open_start(c->wanted);
+    if (one_in(3))
+        any_levels(c);
+    for (size_t j = 0; j < c->N; j++)
+        c->row[ROW_h][j] = h - less;
+    c->row[ROW_h][any_place((size_t)c->N)] = h;
+    for (size_t j = 0; j < c->N; j++)
+        c->row[ROW_e][j] = wetted(c->row[ROW_h][j], still + between(-noise, noise));
 }
 
 /* One value or length of the input at its bound or beyond it. */
