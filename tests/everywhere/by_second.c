@@ -9,6 +9,7 @@
 
 enum { CELLS = SECOND_CELLS, HEAD = 48 };
 #define POURED_MOST 1000000
+#define TOO_LONG 26 /* a time step, for the deepest cell */
 
 struct rows {
     int64_t h[CELLS], e[CELLS], u[CELLS], V[CELLS], Q[3 * (CELLS - 1)], F[3 * CELLS];
@@ -62,7 +63,14 @@ static size_t poured_place(const int64_t *s, size_t N)
 /* Whether a refusal is of what is given, and not of what comes of it. */
 static bool of_input(unsigned number)
 {
-    return (number >= PATHPETAL_SHAPE && number <= PATHPETAL_DOMINANCE) || number >= PATHPETAL_BAD_DEPTH;
+    return (number >= PATHPETAL_SHAPE && number <= PATHPETAL_DOMINANCE) || number == TOO_LONG ||
+           number >= PATHPETAL_BAD_DEPTH;
+}
+
+/* Whether a refusal of a file is told after what is poured. */
+static bool after_poured(unsigned number)
+{
+    return number == PATHPETAL_DEPTH || number == TOO_LONG || number == PATHPETAL_DOMINANCE;
 }
 
 /* A channel that a call accepted, back in the bytes it came from. */
@@ -112,7 +120,7 @@ uint64_t by_second_step(uint8_t *file, size_t file_len, const uint8_t *poured, s
     size_t N = pathpetal_cells(file);
     if (poured_len != 4 * N)
         return refused(PATHPETAL_SHAPE, 0);
-    if (a.number && a.number != PATHPETAL_DEPTH && a.number != PATHPETAL_DOMINANCE)
+    if (a.number && !after_poured(a.number))
         return packed(a);
     take(s, poured, N);
     if (poured_place(s, N))

@@ -1,8 +1,8 @@
 /* calls write CALLS: draws calls of pathpetal.h from one seed and writes them to the file CALLS. What each would
    answer is asked of the second program, so that accepted calls, each refusal at each stage, the first, middle and last
    places of those that have one, each k from 1 to 10, each count of accepted steps that the weights of a step hang on,
-   and an exact half at each place that rounds, of both signs and parities, all have their share. The calls of gauges
-   come last.
+   time steps at their bound and beyond it, and an exact half at each place that rounds, of both signs and parities, all
+   have their share. The calls of gauges come last.
    calls table CALLS ANSWERS: prints how often each answer occurred; fails if one that is known to occur did not, or if
    a call touched a byte that is not its own.
    calls differ CALLS ANSWERS OTHERS..: prints the first calls that one of the OTHERS answers differently, and last 'N
@@ -14,11 +14,11 @@
 
 #include <inttypes.h>
 
-enum { REASONS = 38, STAGES = 11, EACH = 5000, MOST_DRAWN = 4000000 };
+enum { REASONS = 38, TOO_LONG = 26, STAGES = 11, EACH = 5000, MOST_DRAWN = 4000000 };
 static const char *const names[DO_KINDS] = {"make", "step", "filter", "check", "run", "place", "feed", "read"};
 
-enum { V_HALVES, FLUX_HALVES, U_HALVES, MOVED_HALVES, FLOW_HALVES, FILTERED_HALVES, BY_LESS, THIN, FAULTS, EDGE, VIOLENT,
-       ANY, DRAWN, WATCHED, ENDS, GAUGE_FAULTS, SCENES };
+enum { V_HALVES, FLUX_HALVES, U_HALVES, MOVED_HALVES, FLOW_HALVES, FILTERED_HALVES, BY_LESS, THIN, BOUND, FAULTS, EDGE,
+       VIOLENT, ANY, DRAWN, WATCHED, ENDS, GAUGE_FAULTS, SCENES };
 static const char *const scenes[SCENES] = {
     "every inner V of make is exactly a half",
     "dispersive parts are exactly halves",
@@ -28,6 +28,7 @@ static const char *const scenes[SCENES] = {
     "what a filter pass rounds is exactly a half",
     "out of its range by a half or less",
     "sides of the solve fall below the least normal float",
+    "a time step at its bound or just beyond it",
     "several faults at once, so that their order decides",
     "a flux just out of range",
     "fast or much poured, over long steps",
@@ -48,6 +49,10 @@ static long total[DO_KINDS], answered[DO_KINDS][REASONS][STAGES], settled[STAGES
 /* How often 12 and 14 were of the gauges and not of the file, and a gauge got each of the eight places. */
 enum { GAUGES = 8 };
 static long of_gauges[DO_KINDS][2], got[GAUGES + 1];
+
+/* How often a time step was refused that is too long by one ms, or for one mm of depth or width; and how often one was
+   let through that would be so with one more. */
+static long bounded[DO_KINDS][2];
 
 /* How often a flux and an acceleration were refused in one level while an older one has a fault at a lower place; and
    in a step or a run whose next step has no weight for the level. */
@@ -141,6 +146,30 @@ static bool lower_in_older(const struct record *r, unsigned number, unsigned pla
     return false;
 }
 
+/* Whether a call is refused for its time step, or is not and comes to what is asked after it. */
+static bool comes_to_time(unsigned number)
+{
+    return number == 0 || (number >= PATHPETAL_DOMINANCE && number <= PATHPETAL_COMPLETE) || number == PATHPETAL_MORE ||
+           number == TOO_LONG;
+}
+
+/* Whether the time step of such a call is next to its bound. */
+static bool next_to_bound(const struct record *r, bool beyond)
+{
+    bool make = r->kind == DO_MAKE;
+    const uint8_t *file = r->string[FILE_STRING].at, *depths = make ? r->string[FIRST_ROW].at : file + 48;
+    const uint64_t *n = r->number, N = make ? n[0] : pathpetal_cells(file);
+    int64_t X = (int64_t)(make ? n[1] : pathpetal_width_mm(file));
+    int64_t T = (int64_t)(make ? n[2] : pathpetal_step_ms(file)), h = 0;
+    for (size_t j = 0; j < N; j++) {
+        int64_t depth = pathpetal_signed(depths + 4 * j);
+        h = depth > h ? depth : h;
+    }
+    if (beyond)
+        return !too_long(h - 1, X, T) || !too_long(h, X, T - 1) || !too_long(h, X + 1, T);
+    return too_long(h + 1, X, T) || too_long(h, X, T + 1) || too_long(h, X - 1, T);
+}
+
 static bool is_of_gauges(const struct record *r, unsigned number)
 {
     if (r->kind < DO_PLACE || (number != PATHPETAL_LENGTH && number != PATHPETAL_OFFSETS))
@@ -183,6 +212,8 @@ static bool counted(const struct record *r, uint64_t answer)
         got[count]++;
     if (is_of_gauges(r, number))
         of_gauges[r->kind][number == PATHPETAL_OFFSETS]++;
+    if (r->kind != DO_READ && comes_to_time(number))
+        bounded[r->kind][number != TOO_LONG] += next_to_bound(r, number == TOO_LONG);
     bool refused, stages = came_to_stages(r, answer, &refused);
     for (int start = 0; stages && start < STARTS; start++)
         started[r->kind][start][refused] += starts_from(r, start);
@@ -192,7 +223,8 @@ static bool counted(const struct record *r, uint64_t answer)
 /* What is known to occur. 6 is not: no channel is known that meets it. */
 static bool due(unsigned kind, unsigned number, unsigned stage)
 {
-    bool made = number == 1 || number == 2 || number == 4 || number == 5 || (number >= 31 && number <= 33);
+    bool made = number == 1 || number == 2 || number == 4 || number == 5 || number == TOO_LONG ||
+                (number >= 31 && number <= 33);
     bool input = made || (number >= 12 && number <= 14) || (number >= 34 && number <= 36);
     switch (kind) {
     case DO_MAKE: return stage == 0 && (number == 0 || made || number == 7 || number == 9 || number == 15);
@@ -210,7 +242,7 @@ static bool due(unsigned kind, unsigned number, unsigned stage)
         return stage == 10;
     if (kind == DO_RUN)
         return stage <= 2 && (number == 4 || number == 7 || number == 8);
-    return number == 4 || number == 7 || number == 8 || (number == 9 && stage <= 2);
+    return number == 4 || (number >= 7 && number <= 9);
 }
 
 /* How much of what is known to occur did not, in the calls of the first kinds. */
@@ -245,6 +277,12 @@ static long missing(bool say, unsigned kinds)
                         printf("%s from %s seldom %s\n", names[kind], starts[start],
                                refused ? "refused at a stage" : "took a step");
                 }
+        for (unsigned i = 0; i < 2 && kind != DO_READ; i++)
+            if (bounded[kind][i] < 100) {
+                n++;
+                if (say)
+                    printf("%s seldom %s a time step next to its bound\n", names[kind], i ? "let through" : "refused");
+            }
         for (unsigned i = 0; i < 2 && kind >= DO_PLACE; i++)
             if (of_gauges[kind][i] < 100) {
                 n++;
@@ -341,6 +379,9 @@ static bool share_left(const struct record *c, uint64_t answer)
     if (is_of_gauges(c, number) && of_gauges[c->kind][number == PATHPETAL_OFFSETS] < share)
         return true;
     if (c->scene <= FAULTS && shown[c->scene][c->kind] < 400)
+        return true;
+    if (c->kind != DO_READ && comes_to_time(number) && bounded[c->kind][number != TOO_LONG] < 150 &&
+        next_to_bound(c, number == TOO_LONG))
         return true;
     if (has_place(number) && placed[c->kind][number][where(c, number, pathpetal_place(answer))] < 40)
         return true;
@@ -578,6 +619,8 @@ static void faulty(struct call *c)
         c->row[ROW_h][i] = steep ? 3000 : 1000, c->row[ROW_e][i] = between(-500, 500);
     if (steep)
         c->row[ROW_h][PICK(0, (int64_t)N - 1, (int64_t)j)] = 1000;
+    if (one_in(4)) /* too long a time step */
+        c->X = 100, c->T = 100;
     if (one_in(4))
         c->X = (uint64_t)PICK(9, 5001);
     if (one_in(4))
@@ -625,7 +668,7 @@ static void with_faults(struct call *c)
         if (one_in(6))
             spoil(c);
         if (one_in(3))
-            c->row[ROW_u][0] = c->row[ROW_u][3] = PICK(1, -1) * 20000000, c->X = 10;
+            c->row[ROW_u][0] = c->row[ROW_u][3] = PICK(1, -1) * 20000000, c->X = 10, c->T = 1;
         as_make(c);
         if (one_in(2))
             f->len = (f->len + (size_t)PICK(1, 64, 128, 600)) % 17000;
@@ -645,7 +688,8 @@ static void with_faults(struct call *c)
 
 static void one_scene(struct call *c)
 {
-    switch (draw() % 27) {
+    unsigned kind;
+    switch (draw() % 28) {
     case 18: with_faults(c); break;
     case 19:
         if (moved_halves(c))
@@ -653,11 +697,27 @@ static void one_scene(struct call *c)
         break;
     case 20: flow_halves(c); from_make(c, FLOW_HALVES); break;
     case 21: filtered_halves(c); once(c, FILTERED_HALVES, DO_FILTER); break;
-    case 22: if (at_the_brink(c)) from_file(c, EDGE); break;
+    case 22:
+        kind = (unsigned)PICK(DO_STEP, DO_FILTER, DO_RUN);
+        if (one_in(4)) {
+            just_too_rough(c, kind == DO_FILTER ? FILTER : STEP);
+            once(c, EDGE, kind);
+        } else if (at_the_brink(c)) {
+            from_file(c, EDGE);
+        }
+        break;
     case 23: just_too_fast(c); once(c, BY_LESS, DO_STEP); break;
     case 24: just_too_large(c); from_make(c, BY_LESS); break;
     case 25: just_too_dispersive(c); from_make(c, BY_LESS); break;
     case 26: just_dry(c); once(c, BY_LESS, DO_STEP); break;
+    case 27:
+        at_the_bound(c);
+        kind = (unsigned)PICK(DO_MAKE, DO_STEP, DO_FILTER, DO_CHECK, DO_RUN);
+        if (kind == DO_MAKE)
+            from_make(c, BOUND);
+        else
+            once(c, BOUND, kind);
+        break;
     case 0:
         if (one_in(2))
             reduced_halves(c);
@@ -802,7 +862,7 @@ static void gauge_scene(struct call *c)
 {
     static struct string gauges;
     unsigned kind = (unsigned)PICK(DO_PLACE, DO_FEED, DO_READ);
-    switch (draw() % 4) {
+    switch (draw() % 5) {
     case 0:
         deep_channel(c);
         memset(gauges.at, 0, gauges.len = PATHPETAL_GAUGES_LENGTH);
@@ -823,6 +883,13 @@ static void gauge_scene(struct call *c)
         if (!one_in(3))
             at_an_end(&gauges, c);
         offer_gauges(c, &gauges, kind);
+        break;
+    case 2:
+        at_the_bound(c);
+        as_file(c);
+        r.scene = BOUND;
+        any_gauges(&gauges, c);
+        offer_gauges(c, &gauges, (unsigned)PICK(DO_PLACE, DO_FEED));
         break;
     default:
         faulty(c);
@@ -846,6 +913,9 @@ static int write_calls(const char *to)
     out = opened(to, "wb");
     for (size_t i = 0; i < sizeof c.row / sizeof(int64_t); i++)
         ((int64_t *)c.row)[i] = (int64_t)draw();
+    for (size_t i = 0; i < LATE_BRINKS; i++)
+        if (late_brink(&c, i))
+            once(&c, EDGE, DO_STEP);
     while (missing(false, DO_PLACE) && drawn < MOST_DRAWN)
         one_scene(&c);
     while (missing(false, DO_KINDS) && drawn < MOST_DRAWN)
@@ -912,7 +982,10 @@ static int table(const char *calls, const char *answers)
     }
     printf("35 and 36 before a lower place in an older level: %ld %ld\n", older_lower[0], older_lower[1]);
     printf("35 and 36 of a step or a run, for a level of weight 0: %ld %ld\n", unweighed[0], unweighed[1]);
-    printf("12 and 14 of the gauges and not of the file:");
+    printf("time steps next to their bounds, refused and let through:");
+    for (unsigned kind = 0; kind < DO_READ; kind++)
+        printf(" %s %ld %ld", names[kind], bounded[kind][0], bounded[kind][1]);
+    printf("\n12 and 14 of the gauges and not of the file:");
     for (unsigned kind = DO_PLACE; kind < DO_KINDS; kind++)
         printf(" %s %ld %ld", names[kind], of_gauges[kind][0], of_gauges[kind][1]);
     printf("\ngauges placed as number 1 to 8:");

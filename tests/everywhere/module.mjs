@@ -44,7 +44,7 @@ await test('the words are those of pathpetal.h', () => {
     for (const [, number, comment] of list.matchAll(/= (\d+),?\s*\/\*(.*?)\*\//gs))
         words[number] = comment.replace(/\s+/g, ' ').trim();
     assert.deepEqual({ ...reasons }, words);
-    assert.deepEqual(Object.keys(reasons).map(Number), [0, 1, 2, 4, 5, 6, 7, 8, 9, 10, 11, 12, 13, 14, 15, 16, 20, 21, 30, 31, 32, 33, 34, 35, 36, 37]);
+    assert.deepEqual(Object.keys(reasons).map(Number), [0, 1, 2, 4, 5, 6, 7, 8, 9, 10, 11, 12, 13, 14, 15, 16, 20, 21, 26, 30, 31, 32, 33, 34, 35, 36, 37]);
     assert.ok(Object.isFrozen(reasons));
 });
 
@@ -197,6 +197,29 @@ await test('what is refused for a value names its cell or face', () => {
             changed(dry, flux + 8 * (7 * level + face - 1), 10 ** 9, true);
     assert.throws(() => pathpetal.step(dry, still(8, 0)), refused(4, 0, 3));
     assert.deepEqual(pathpetal.run(dry), { complete: false, number: 4, stage: 0, place: 3, count: 0, words: reasons[4] });
+});
+
+await test('a time step that is too long for the deepest cell is refused by every call that takes a channel', () => {
+    const flat = (widthMm, stepMs, ...depths) => ({ ...start(), widthMm, stepMs, depths: row(depths), heights: still(8, 0) });
+    const of = (depth, cell, other) => Array.from({ length: 8 }, (_, j) => (j === cell ? other : depth));
+    const file = pathpetal.make(flat(20, 22, ...of(500))), gauges = new Uint8Array(GAUGES_LENGTH);
+    assert.throws(() => pathpetal.make(flat(20, 23, ...of(500))), refused(26, 0));
+    assert.throws(() => pathpetal.make(flat(19, 22, ...of(500))), refused(26, 0));
+    assert.equal(pathpetal.make(flat(327, 100, ...of(6540))).length, fileLength(8)); // equal products
+    for (const cell of [0, 3, 7])
+        assert.throws(() => pathpetal.make(flat(327, 100, ...of(6540, cell, 6541))), refused(26, 0));
+    assert.throws(() => pathpetal.make(flat(20, 23, ...of(500, 4, 100))), refused(26, 0)); // before 5, of cell 5
+    assert.throws(() => pathpetal.make(flat(20, 20, ...of(500, 4, 100))), refused(5, 0, 5));
+    assert.throws(() => pathpetal.make({ ...flat(20, 23, ...of(500)), heights: still(8, -499_001) }), refused(4, 0, 1));
+    file[12] = 23;
+    const before = file.slice();
+    for (const call of [() => pathpetal.check(file), () => pathpetal.read(file), () => pathpetal.step(file, still(8, 0)), () => pathpetal.filter(file),
+        () => pathpetal.placeGauge(file, gauges, 1), () => pathpetal.feedGauges(file, gauges)])
+        assert.throws(call, refused(26, 0));
+    assert.throws(() => pathpetal.step(file, still(8, 1_000_001)), refused(37, 0, 1));
+    assert.deepEqual(pathpetal.run(file), { complete: false, number: 26, stage: 0, place: 0, count: 0, words: reasons[26] });
+    assert.deepEqual(file, before);
+    assert.deepEqual(gauges, new Uint8Array(GAUGES_LENGTH));
 });
 
 // a file of start() whose cell has a height, and gauges fed one height after another at a cell
