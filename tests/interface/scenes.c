@@ -61,6 +61,25 @@ static int64_t triangle(size_t j, int64_t period)
     return at < 1000 ? at : at < 3000 ? 2000 - at : at - 4000;
 }
 
+/* The longest time step, in ms, of a channel: 9,810·h·T² is at most 6,000,000·X² at its deepest h. */
+static uint64_t longest_step(const struct scene *s)
+{
+    uint64_t deepest = 1, longest = 100;
+    for (size_t j = 0; j < s->cells; j++)
+        deepest = (uint64_t)s->depths[j] > deepest ? (uint64_t)s->depths[j] : deepest;
+    while (9810 * deepest * longest * longest > 6000000 * s->width * s->width)
+        longest--;
+    return longest;
+}
+
+/* A time step that is too long is cut to the longest, but for one in so many. */
+static void cut_step(struct scene *s, uint64_t left)
+{
+    uint64_t longest = longest_step(s);
+    if (s->step > longest && !one_in(left))
+        s->step = longest;
+}
+
 /* In all scenes each draw is a statement of its own: C leaves the order within one open. */
 
 void calm(struct scene *s, size_t cells)
@@ -88,6 +107,7 @@ void wild(struct scene *s, size_t cells)
         int64_t u = between(-fast, fast), poured = between(-pours, pours);
         cell(s, j, d, e, u, poured);
     }
+    cut_step(s, 8);
 }
 
 void violent(struct scene *s, size_t cells)
@@ -103,6 +123,22 @@ void violent(struct scene *s, size_t cells)
         int64_t poured = shallow && one_in(6) ? between(0, 1000000) : 0;
         cell(s, j, d, e, u, poured);
     }
+    cut_step(s, 8);
+}
+
+void hasty(struct scene *s, size_t cells)
+{
+    bool brimming = one_in(2), narrow = one_in(2);
+    int64_t width = brimming ? between(60, 900) : narrow ? between(10, 40) : between(40, 1000), step = between(50, 100);
+    int64_t deepest = clamp(6000000 * width * width / (9810 * step * step), 1, 20000);
+    int64_t depth = brimming ? 1 + magnitude(deepest - 1) : deepest - between(0, deepest * 4 / 10);
+    int64_t high = magnitude(1000 * depth), level = brimming ? 20000000 - high - magnitude(1000000) : 0;
+    int64_t fast = one_in(2) ? magnitude(10000) : 0;
+    counts(s, cells, width, step, 100);
+    for (size_t j = 0; j < cells; j++) {
+        int64_t e = level + between(-high, high), u = between(-fast, fast);
+        cell(s, j, depth, e, u, 0);
+    }
 }
 
 void deep(struct scene *s, size_t cells)
@@ -113,6 +149,7 @@ void deep(struct scene *s, size_t cells)
         int64_t d = 20000 - between(0, 40), e = between(-5000000, 5000000), u = between(-20000000, 20000000);
         cell(s, j, d, e, u, 0);
     }
+    cut_step(s, 8);
 }
 
 /* Over an even bottom V is u less 0.3900195 times the depth over the width, squared, times the second difference of

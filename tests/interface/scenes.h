@@ -33,6 +33,9 @@ void wild(struct scene *s, size_t cells);
 /* Fast water, or shallow water with much poured into it, over long steps: corrections wander, and some leave a range
    late. */
 void violent(struct scene *s, size_t cells);
+/* Time steps that are nearly too long, over shallow water or over water that is near its highest: corrections grow from
+   one to the next, and leave a range late. */
+void hasty(struct scene *s, size_t cells);
 /* Deep and fast water, to be scaled to the edge of a refusal. */
 void deep(struct scene *s, size_t cells);
 /* Every V of make is a half in exact arithmetic, so that the order of the float operations decides its rounding. */

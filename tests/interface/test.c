@@ -337,6 +337,29 @@ static int64_t depth(const struct call *c, size_t n, size_t j)
     return pathpetal_signed(c->string[BYTES].at + row_start(ROW_h, n) + 4 * j);
 }
 
+/* The least width, in mm, that is allowed with this time step where the deepest cell is so deep. */
+static int64_t least_width(int64_t deepest, int64_t step)
+{
+    int64_t width = 10;
+    while (9810 * deepest * step * step > 6000000 * width * width)
+        width++;
+    return width;
+}
+
+/* A time step that is too long, by 1 mm of the width, for the deepest cell. No width is too small for less than 7 mm:
+   if that is all there is, one cell is made as deep. */
+static void set_long_step(struct call *c, size_t n)
+{
+    size_t deepest = draw() % n;
+    for (size_t j = 0; j < n; j++)
+        if (depth(c, n, j) > depth(c, n, deepest))
+            deepest = j;
+    if (depth(c, n, deepest) < 7)
+        set_entry(c, n, ROW_h, deepest, 7);
+    set_word(c, STEP_MS, 100);
+    set_word(c, WIDTH, (uint64_t)least_width(depth(c, n, deepest), 100) - 1);
+}
+
 /* Another file in place of the one that is there. */
 static void set_file(struct call *c, const struct call *from)
 {
@@ -534,10 +557,11 @@ static void dry_cells(const struct call *from)
         }
 }
 
-/* A bottom that is even but for one cell or one wall cell, about the edge of refusal 5. */
+/* A bottom that is even but for one cell or one wall cell, about the edge of refusal 5; no time step is too long. */
 static void steep(struct call *c, size_t n, size_t cell, int64_t width, int64_t shallow, int64_t left, int64_t right)
 {
     set_word(c, WIDTH, (uint64_t)width);
+    set_word(c, STEP_MS, 1);
     for (size_t j = 0; j < n; j++) {
         set_entry(c, n, ROW_h, j, j == cell ? shallow : j < cell ? left : right);
         set_entry(c, n, ROW_e, j, 0);
@@ -565,6 +589,7 @@ static void steep_bottoms(const struct call *from)
         while (high - low > 1) {
             int64_t middle = (low + high) / 2;
             set_word(&c, WIDTH, (uint64_t)width);
+            set_word(&c, STEP_MS, 1);
             for (size_t j = 0; j < n; j++) {
                 set_entry(&c, n, ROW_h, j, j == cell ? shallow : middle);
                 set_entry(&c, n, ROW_e, j, 0);
@@ -578,6 +603,31 @@ static void steep_bottoms(const struct call *from)
             steep(&c, n, cell, width, shallow, low + off, low + off);
         steep(&c, n, cell, width, shallow, low + 1, low);
         steep(&c, n, cell, width, shallow, low, low + 1);
+    }
+}
+
+/* Still water over an even bottom, or one that is even but for its deepest cell, at depths on both sides of the edge of
+   refusal 26. */
+static void long_steps(const struct call *from)
+{
+    static struct call c;
+    size_t n = word(from, CELLS);
+    set_file(&c, from);
+    for (int i = 0; i < 200; i++) {
+        int64_t width = 10 + magnitude(562), step = between(2, 100), others = PICK(0, 1); /* others: how much less deep */
+        int64_t edge = 6000000 * width * width / (9810 * step * step);
+        size_t deepest = (size_t)PICK(0, (int64_t)n - 1, between(0, (int64_t)n - 1));
+        for (int64_t deep = edge - 1; deep <= edge + 2; deep++) {
+            if (deep < 2 || deep > 20000)
+                continue;
+            set_word(&c, WIDTH, (uint64_t)width);
+            set_word(&c, STEP_MS, (uint64_t)step);
+            for (size_t j = 0; j < n; j++) {
+                set_entry(&c, n, ROW_h, j, j == deepest ? deep : deep - others);
+                set_entry(&c, n, ROW_e, j, 0);
+            }
+            damaged(&c);
+        }
     }
 }
 
@@ -599,7 +649,7 @@ static void random_bytes(const struct call *from)
 /* ---- faults together: the first in the interface's order is the answer ---- */
 
 /* Those of the rows first and those of the head last, so that each finds its place in the file. */
-enum fault { AT_ITS_END, STEEP, DRY, POURED_AMOUNT, VALUE, COUNT, OFFSET, LENGTH, POURED_LENGTH, CELLS_FAULT,
+enum fault { AT_ITS_END, STEEP, LONG_STEP, DRY, POURED_AMOUNT, VALUE, COUNT, OFFSET, LENGTH, POURED_LENGTH, CELLS_FAULT,
              EDITION_FAULT, SHORT, FAULTS };
 
 static void wrong_length(struct string *s)
@@ -623,7 +673,9 @@ static void damage(struct call *c, size_t n, enum fault fault)
         j = (size_t)between(1, (int64_t)n - 2);
         set_entry(c, n, ROW_h, j - 1, 20000), set_entry(c, n, ROW_h, j, 5000), set_entry(c, n, ROW_h, j + 1, 20000);
         set_entry(c, n, ROW_e, j, 0);
+        set_word(c, STEP_MS, 1);
         break;
+    case LONG_STEP: set_long_step(c, n); break;
     case DRY: set_entry(c, n, ROW_e, j, 999 - 1000 * depth(c, n, j)); break;
     case POURED_AMOUNT:
         put(c->string[POURED].at + 4 * j, (uint64_t)PICK(1000001, -1000001, INT32_MAX, INT32_MIN), 4);
@@ -748,7 +800,7 @@ static void places(const struct call *from)
             }
 }
 
-/* Cells with less than 1 mm of water, and then a bottom that is too steep in a lower cell too. */
+/* A bottom that is too steep, then a time step that is too long for it, and then cells with less than 1 mm of water. */
 static void dry_and_steep_places(const struct call *from)
 {
     static struct call c;
@@ -765,6 +817,8 @@ static void dry_and_steep_places(const struct call *from)
         if (j + 2 < n)
             set_entry(&c, n, ROW_h, n - 1, 1000);
         refused_there(&c, PATHPETAL_DOMINANCE, j + 1);
+        set_long_step(&c, n);
+        refused_there(&c, PATHPETAL_TIME_STEP, 0);
         set_entry(&c, n, ROW_e, n - 1, 999 - 1000 * depth(&c, n, n - 1));
         refused_there(&c, PATHPETAL_DEPTH, n);
         set_entry(&c, n, ROW_e, j, 999 - 1000 * depth(&c, n, j));
@@ -772,19 +826,21 @@ static void dry_and_steep_places(const struct call *from)
     }
 }
 
-/* Amounts that are out of their range, and a dry cell that comes after them. */
+/* Amounts that are out of their range, and a time step that is too long and a dry cell, which come after them. */
 static void poured_places(const struct call *from)
 {
     static struct call c;
     size_t n = word(from, CELLS);
     for (size_t j = 0; j < n; j = next_place(j, n))
-        for (int more = 0; more < 3; more++) {
+        for (int more = 0; more < 4; more++) {
             set_file(&c, from);
             memset(c.string[POURED].at, 0, 4 * n);
             put(c.string[POURED].at + 4 * j, (uint64_t)PICK(1000001, -1000001, INT32_MAX, INT32_MIN), 4);
             for (size_t i = j + 1; i < n && more > 0; i += 2)
                 put(c.string[POURED].at + 4 * i, 1000001, 4);
             if (more > 1)
+                set_long_step(&c, n);
+            if (more > 2)
                 set_entry(&c, n, ROW_e, 0, 999 - 1000 * depth(&c, n, 0));
             damaged_files++;
             expect(is_at(compare(STEP, &c), PATHPETAL_BAD_POURED, 0, (unsigned)j + 1, 0),
@@ -828,6 +884,7 @@ static void many_damaged_files(void)
         dry_and_steep_places(&base);
         poured_places(&base);
         made_places(sizes[i]);
+        long_steps(&base);
         if (sizes[i] < 256)
             steep_bottoms(&base);
     }
@@ -858,7 +915,7 @@ static void spoil_make(struct call *c)
     uint64_t over = 1ull << PICK(32, 33, 58, 62, 63); /* what is lost if a product or a number is cut short */
     int i = DEPTHS + (int)(draw() % 3), row = i - DEPTHS;
     size_t n = c->string[i].len / 4, j = n ? PICK(0, (int64_t)n - 1, (int64_t)(draw() % n)) : 0;
-    switch (draw() % 12) {
+    switch (draw() % 13) {
     case 0: c->cells = any; break;
     case 1: c->cells += over; break;
     case 2: c->cells += (uint64_t)PICK(1, -1); break;
@@ -876,6 +933,16 @@ static void spoil_make(struct call *c)
         if (n) /* a step of the bottom */
             put(c->string[DEPTHS].at + 4 * (j % (c->string[DEPTHS].len / 4 + 1)), (uint64_t)between(1, 20000), 4);
         break;
+    case 10: { /* at the edge of a time step that is too long */
+        int64_t deepest = 1, step = between(1, 100);
+        for (size_t k = 0; k < c->string[DEPTHS].len / 4; k++) {
+            int64_t h = pathpetal_signed(c->string[DEPTHS].at + 4 * k);
+            deepest = h > deepest && h <= 20000 ? h : deepest;
+        }
+        c->step = (uint64_t)step;
+        c->width = (uint64_t)(least_width(deepest, step) - PICK(0, 1));
+        break;
+    }
     default:
         if (n)
             put(c->string[i].at + 4 * j,
@@ -942,10 +1009,11 @@ static void channels(void)
     static struct scene s;
     for (int i = 0; i < 2000; i++) {
         size_t n = few_cells();
-        switch (draw() % 8) {
+        switch (draw() % 9) {
         case 0: case 1: violent(&s, n); break;
         case 2: case 3: wild(&s, n); break;
         case 4: deep(&s, n); break;
+        case 5: hasty(&s, n); break;
         default: calm(&s, n); break;
         }
         set_scene(&c, &s);
@@ -1013,7 +1081,8 @@ static bool is(uint64_t answer, unsigned number, unsigned stage, uint64_t steps)
 /* The header's four readers give back what was packed. */
 static void readers(void)
 {
-    static const unsigned numbers[] = {0, 4, 16, 31, 37, 255}, stages[] = {0, 1, 10, 255}, at[] = {0, 1, 255, 256, 511};
+    static const unsigned numbers[] = {0, 4, 16, 26, 31, 37, 255}, stages[] = {0, 1, 10, 255};
+    static const unsigned at[] = {0, 1, 255, 256, 511};
     static const uint64_t counts[] = {0, 1, 10, 999999, 1000000};
     for (size_t i = 0; i < sizeof numbers / sizeof *numbers; i++)
         for (size_t j = 0; j < sizeof stages / sizeof *stages; j++)
@@ -1043,6 +1112,131 @@ static void known_places(void)
     expect(is_at(compare(STEP, &c), 4, 0, 3, 0), "cell 3 falls dry in a step");
     c.most = 10;
     expect(is_at(compare(RUN, &c), 4, 0, 3, 0), "cell 3 falls dry in a run");
+}
+
+/* A cell's number in make's row and in the file. */
+static void set_both(struct call *c, size_t n, int row, size_t j, int64_t value)
+{
+    put(c->string[DEPTHS + row].at + 4 * j, (uint64_t)value, 4);
+    set_entry(c, n, row, j, value);
+}
+
+static void set_step(struct call *c, uint64_t width, uint64_t step)
+{
+    c->width = width, c->step = step;
+    set_word(c, WIDTH, width), set_word(c, STEP_MS, step);
+}
+
+/* Still water of one depth, as make's input and in a file, whether make gives such a file or not. */
+static void still(struct call *c, size_t n, uint64_t width, uint64_t step, int32_t deep)
+{
+    even(c, n, deep, 0, 10);
+    c->width = 5000, c->step = 1;
+    expect(is(compare(MAKE, c), 0, 0, 0), "still water in wide cells, with the shortest time step");
+    set_step(c, width, step);
+}
+
+/* All calls accept still water, or all refuse it, and then leave every byte as it was. */
+static void all_answer(const struct call *from, unsigned number, const char *what)
+{
+    static struct call c;
+    uint8_t gauges[PATHPETAL_GAUGES_LENGTH] = {0}, none[PATHPETAL_GAUGES_LENGTH] = {0};
+    const uint8_t *file = from->string[BYTES].at;
+    size_t len = from->string[BYTES].len;
+    for (enum kind kind = CHECK; kind < KINDS; kind++) {
+        bool takes_step = number == 0 && (kind == STEP || kind == RUN);
+        c = *from;
+        c.most = 1;
+        expect(is(compare(kind, &c), takes_step && kind == RUN ? PATHPETAL_MORE : number, 0, takes_step), what);
+        expect(number == 0 || !memcmp(c.string[BYTES].at, file, len), "a refused call leaves the file as it was");
+    }
+    c = *from;
+    c.string[BYTES].len--;
+    expect(is(compare(MAKE, &c), number ? number : PATHPETAL_BUFFER, 0, 0), "make without room for the file");
+    expect(is(pathpetal_place_gauge(file, len, gauges, sizeof gauges, 1), number, 0, number == 0), what);
+    expect(is(pathpetal_feed_gauges(file, len, gauges, sizeof gauges), number, 0, 0), what);
+    expect(number == 0 || !memcmp(gauges, none, sizeof gauges), "a refused call leaves the gauges as they were");
+}
+
+/* The edge of refusal 26 by one ms, by one mm of width and by one mm of depth; the least and the largest numbers. */
+static void known_time_steps(void)
+{
+    static const struct {
+        uint64_t width, step;
+        int32_t deep;
+        unsigned due;
+    } at[] = {
+        {327, 100, 6540, 0},   {327, 100, 6541, 26}, /* equal on both sides, and 1 mm more */
+        {326, 100, 6540, 26},  {328, 100, 6541, 0},  {327, 99, 6541, 0},
+        {20, 22, 500, 0},      {20, 23, 500, 26},    {19, 22, 500, 26},     {21, 23, 500, 0},
+        {20, 20, 500, 0},      {20, 20, 611, 0},     {20, 20, 612, 26},
+        {10, 1, 20000, 0},     {10, 2, 20000, 26},   {10, 2, 15290, 0},     {10, 2, 15291, 26},
+        {10, 100, 6, 0},       {10, 100, 7, 26},     {571, 100, 20000, 26}, {572, 100, 20000, 0},
+        {5000, 100, 20000, 0}, {5000, 1, 1, 0},      {10, 1, 1, 0},         {10, 100, 20000, 26},
+    };
+    static struct call c;
+    for (size_t i = 0; i < sizeof at / sizeof *at; i++) {
+        still(&c, 8, at[i].width, at[i].step, at[i].deep);
+        all_answer(&c, at[i].due, "a time step at the edge of what is allowed");
+    }
+}
+
+/* The deepest cell counts wherever it stands, by its depth and not by the water in it. */
+static void known_deepest_cell(void)
+{
+    static const size_t sizes[] = {8, 23, 256};
+    static const int64_t levels[] = {1000 - 6530000, 0, 20000000};
+    static struct call c;
+    for (size_t i = 0; i < sizeof sizes / sizeof *sizes; i++) {
+        size_t n = sizes[i];
+        const size_t cells[] = {0, 1, n / 2, n - 2, n - 1};
+        for (size_t k = 0; k < sizeof cells / sizeof *cells; k++)
+            for (size_t l = 0; l < sizeof levels / sizeof *levels; l++) {
+                still(&c, n, 327, 100, 6530);
+                for (size_t j = 0; j < n; j++)
+                    set_both(&c, n, ROW_e, j, levels[l]);
+                set_both(&c, n, ROW_h, cells[k], 6540);
+                all_answer(&c, 0, "the deepest cell is just allowed");
+                set_both(&c, n, ROW_h, cells[k], 6541);
+                all_answer(&c, PATHPETAL_TIME_STEP, "the deepest cell alone is too deep");
+            }
+    }
+}
+
+/* A time step that is too long beside the faults that come after it, and then beside those that come before it. */
+static void known_time_step_order(void)
+{
+    static struct call c, start;
+    expect(PATHPETAL_TIME_STEP == 26, "the number of a time step that is too long");
+    still(&start, 8, 20, 23, 500);
+    set_both(&start, 8, ROW_u, 0, 20000000);
+    all_answer(&start, PATHPETAL_TIME_STEP, "before a reduced velocity that make finds too large");
+    c = start;
+    set_step(&c, 20, 22);
+    expect(is(compare(MAKE, &c), PATHPETAL_SPEED, 0, 0), "that velocity, by itself");
+    set_both(&start, 8, ROW_h, 4, 100);
+    all_answer(&start, PATHPETAL_TIME_STEP, "before a row that is not dominant");
+    set_word(&start, ACCEPTED, word(&start, WANTED));
+    all_answer(&start, PATHPETAL_TIME_STEP, "a complete channel");
+    c = start;
+    set_step(&c, 20, 22);
+    for (enum kind kind = CHECK; kind < KINDS; kind++)
+        expect(is_at(compare(kind, &c), PATHPETAL_DOMINANCE, 0, 5, 0), "the row that is not dominant, by itself");
+    c = start;
+    put(c.string[POURED].at + 28, (uint64_t)-1000001, 4);
+    expect(is_at(compare(STEP, &c), PATHPETAL_BAD_POURED, 0, 8, 0), "after a poured amount");
+    c.string[POURED].len -= 4;
+    expect(is(compare(STEP, &c), PATHPETAL_SHAPE, 0, 0), "after the length of the poured row");
+    c = start;
+    set_both(&c, 8, ROW_e, 6, 999 - 500000);
+    for (enum kind kind = CHECK; kind < KINDS; kind++)
+        expect(is_at(compare(kind, &c), PATHPETAL_DEPTH, 0, 7, 0), "after a cell with too little water");
+    set_entry(&c, 8, ROW_F, 23, -100000000001);
+    for (enum kind kind = CHECK; kind <= RUN; kind++)
+        expect(is_at(compare(kind, &c), PATHPETAL_BAD_ACCELERATION, 0, 8, 0), "after a level");
+    set_both(&c, 8, ROW_u, 2, -20000001);
+    for (enum kind kind = CHECK; kind < KINDS; kind++)
+        expect(is_at(compare(kind, &c), PATHPETAL_BAD_VELOCITY, 0, 3, 0), "after a velocity out of its range");
 }
 
 /* Water that slopes from wall to wall, at rest: its first steps, and a run of as many, from the same file. Other numbers
@@ -1229,7 +1423,7 @@ static bool due(enum kind kind, int number, int turn)
     bool stepped = kind == STEP || kind == RUN;
     if (turn == 0)
         switch (number) {
-        case 0: case 1: case 2: case 4: case 5: case 31: case 32: case 33: return true;
+        case 0: case 1: case 2: case 4: case 5: case 26: case 31: case 32: case 33: return true;
         case 11: return kind == STEP || kind == FILTER;
         case 12: case 13: case 14: case 34: case 35: case 36: return kind != MAKE;
         case 15: return kind == MAKE;
@@ -1358,6 +1552,9 @@ int main(void)
     known();
     known_filters();
     known_places();
+    known_time_steps();
+    known_deepest_cell();
+    known_time_step_order();
     known_first_steps();
     nothing_lent();
     long_strings();
