@@ -94,12 +94,14 @@ static void no_gauges(struct call *c)
     memset(c->state, 0, STATE);
 }
 
-/* The file of a channel so deep that every height may stand in every cell. */
+/* The file of a channel so deep that every height may stand in every cell, and with cells at least so wide that every
+   time step is allowed. */
 static void channel(struct call *c, size_t N)
 {
     uint64_t n = N;
-    uint64_t accepted = (uint64_t)between(0, 50), step = (uint64_t)between(1, 100);
-    const uint64_t head[12] = {1, n, 5000, step, accepted, 50, 48, 48 + 4 * n, 48 + 8 * n, 48 + 12 * n, 48 + 16 * n,
+    uint64_t accepted = (uint64_t)between(0, 50), step = (uint64_t)PICK(100, between(1, 100));
+    uint64_t width = (uint64_t)PICK(572, 5000);
+    const uint64_t head[12] = {1, n, width, step, accepted, 50, 48, 48 + 4 * n, 48 + 8 * n, 48 + 12 * n, 48 + 16 * n,
                                24 + 40 * n};
     c->file_len = pathpetal_length(N);
     memset(c->file, 0, c->file_len);
@@ -709,7 +711,7 @@ static void other_lengths(void)
 
 /* ---- faults together: the first in the interface's order is the answer ---- */
 
-enum { OWN_FAULTS = 15 };
+enum { OWN_FAULTS = 18 };
 
 /* A fault of the channel's file, with the number and the place that it must be refused with. */
 static uint64_t spoil_file(struct call *c, int fault)
@@ -741,6 +743,13 @@ static uint64_t spoil_file(struct call *c, int fault)
         }
         put(c->file + 8, 1000, 4);
         return refused(5) + (j + 1) * 65536;
+    case 14: put(c->file + 8, 571, 4), put(c->file + 12, 100, 4); return refused(26);
+    case 15: /* beside a row that is not dominant, which comes after it */
+        spoil_file(c, 13), put(c->file + 8, 266, 4), put(c->file + 12, 100, 4);
+        return refused(26);
+    case 16: /* beside a dry cell too, which comes before it */
+        spoil_file(c, 15), set_height(c, j + 1, LEAST);
+        return refused(4) + (j + 1) * 65536;
     default: return 0; /* none */
     }
 }
@@ -793,7 +802,7 @@ static void faults(enum which which)
 
 static bool due(enum which which, int number, int of_gauges)
 {
-    static const int of_file[] = {1, 2, 4, 5, 12, 13, 14, 31, 32, 33, 34, 35, 36};
+    static const int of_file[] = {1, 2, 4, 5, 12, 13, 14, 26, 31, 32, 33, 34, 35, 36};
     if (!of_gauges) {
         for (size_t i = 0; i < sizeof of_file / sizeof *of_file; i++)
             if (number == of_file[i])
