@@ -120,19 +120,23 @@ static void any_call(struct channel *c, size_t cells)
     }
 }
 
-/* Calls on a copy with some of its bytes changed, cut off or added. */
+/* Calls on a copy with some of its bytes changed, cut off or added, or with a time step that is too long. */
 static void damaged(const struct channel *c, int copy)
 {
     static struct channel d;
     size_t cells = pathpetal_cells(c->file);
     d = *c;
     d.copy = copy;
-    switch (draw() % 4) {
+    switch (draw() % 5) {
     case 0:
         d.len = draw() % d.len;
         break;
     case 1:
         d.len += 1 + draw() % 60;
+        break;
+    case 2: /* the longest time step, in the narrowest cells */
+        put(d.file + 8, 10);
+        put(d.file + 12, 100);
         break;
     default:
         for (uint64_t k = 1 + draw() % 3; k > 0; k--) {
