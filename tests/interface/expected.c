@@ -85,7 +85,7 @@ uint64_t expected_check(const uint8_t *file, size_t file_len)
 }
 
 /* What the reader finds before the counts and the values comes first. From there on the second program's step has the
-   order: counts, all values with the poured ones among them, depths, rows, then 11 and the stages. */
+   order: counts, all values with the poured ones among them, depths, time step, rows, then 11 and the stages. */
 uint64_t expected_step(uint8_t *file, size_t file_len, const uint8_t *poured, size_t poured_len)
 {
     struct channel c;
