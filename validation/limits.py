@@ -95,10 +95,12 @@ def growth(drive, report, out):
     least = min(c for points in safe.values() for _, c in points)
     report.exact(f"a Courant number of {ADVISED} is below all of these", ADVISED <= least, f"least {least:.3f}")
     alike(drive, report)
-    report.say("a bound on the Courant number such as 9,810 h T² <= 6,000,000 X² (2.449) lets these pass:")
+    report.say("the bound of the rule, 9,810 h T² <= 6,000,000 X² (a Courant number of 2.449), lets these pass:")
     for ratio, X in ((2, 20), (5, 50), (10, 100), (25, 20)):
         h = ratio * X
         T = step_for(h, X, BOUND)
+        made = Channel(drive, X, T + 1, h, [0] * 8).made
+        report.exact(f"  h {h}, X {X}, T {T + 1}, Courant number {courant(h, X, T + 1):.3f}, is not made", made == 26, f"refused {made}")
         for cells in (8, 16):
             walk, sizes = short_waves(drive, h, X, T, cells)
             report.exact(f"  h {h}, X {X}, T {T}, Courant number {courant(h, X, T):.3f}, waves of {cells} cells",
@@ -123,7 +125,7 @@ def growth(drive, report, out):
     chart.save(f"{out}/growth.svg")
     chart = Chart("Longest safe time step, as a Courant number", "depth over cell width", "Courant number √(gh) T / X",
                   (0.2, 10), (0, 2.6), log_x=True)
-    chart.line([(0.2, BOUND), (10, BOUND)], "2.449: does not protect", 6, "8 4")
+    chart.line([(0.2, BOUND), (10, BOUND)], "2.449: refused above (26), which does not protect", 6, "8 4")
     chart.line(safe[16], "waves of 16 cells: safe below", 2)
     chart.marks(safe[16], None, 2)
     chart.line(safe[8], "waves of 8 cells: safe below", 0)
