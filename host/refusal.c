@@ -174,6 +174,15 @@ static uint64_t advised_step(struct measures of)
     return of.step;
 }
 
+/* The narrowest cells that are advised with a time step of 1 ms. */
+static uint64_t calm_width(struct measures of)
+{
+    of.step = 1;
+    while (!courant_within(of, COURANT_ADVISED))
+        of.width++;
+    return of.width;
+}
+
 /* 1 ms is allowed in every channel, and so are cells of 5,000 mm. */
 void say_time_step(const struct rows *rows, bool survey)
 {
@@ -184,14 +193,17 @@ void say_time_step(const struct rows *rows, bool survey)
     while (!is_allowed(wider))
         wider.width++;
     say("to mend: %s a time step of at most %s ms, the longest that is allowed here, or cells of at least %s mm%s",
-        survey ? "take" : "make it again from its survey, with", GROUPED((int64_t)of.step),
-        GROUPED((int64_t)wider.width), survey ? "; or correct that depth, if it is wrong" : "");
+        survey ? "take" : "take a fresh copy of the file, if it is damaged; or make it again from its survey, with",
+        GROUPED((int64_t)of.step), GROUPED((int64_t)wider.width),
+        survey ? "; or correct that depth, if it is wrong" : "");
     if (advised > 0)
-        say("waves may still grow with what is allowed: at most %s ms is advised here (a Courant number of 0.35)",
-            GROUPED((int64_t)advised));
+        say("waves may still grow with what is allowed: advised is at most %s ms with cells of %s mm (a Courant number of "
+            "0.35)",
+            GROUPED((int64_t)advised), GROUPED((int64_t)of.width));
     else
-        say("waves may still grow with what is allowed: wider cells are advised here, even for 1 ms (a Courant number of "
-            "0.35)");
+        say("waves may still grow with what is allowed: advised are cells of at least %s mm, with 1 ms (a Courant number "
+            "of 0.35)",
+            GROUPED((int64_t)calm_width(of)));
 }
 
 /* Of a Courant number above what is advised: "the Courant number is 1.57, and 0.35 is advised". */
@@ -219,11 +231,8 @@ static void say_courant(struct measures of)
             GROUPED((int64_t)advised), GROUPED((int64_t)of.width), GROUPED((int64_t)of.depth), why.text);
         return;
     }
-    of.step = 1;
-    while (!courant_within(of, COURANT_ADVISED))
-        of.width++;
     say("to mend: take wider cells: at least %s mm for a time step of 1 ms and a depth of %s mm (%s)",
-        GROUPED((int64_t)of.width), GROUPED((int64_t)of.depth), why.text);
+        GROUPED((int64_t)calm_width(of)), GROUPED((int64_t)of.depth), why.text);
 }
 
 /* Whether the deepest water is deeper than 10 cells are wide, beyond which steps may not settle. */

@@ -47,8 +47,8 @@ static bool at_the_brink(struct call *c)
     return true;
 }
 
-/* Seeds of those whose step is refused 9 at the corrections 4 to 10, three for each: of drawn ones it is one in some
-   400. */
+/* Seeds of those whose step is refused 9 at the corrections 4 to 10, three for each, found by trying one after the other
+   with the second program alone: of drawn ones it is one in some 400. */
 static const uint64_t late_brinks[] = {
     10202, 10470, 10818, 12263, 14101, 15884, 12984, 16881, 19316, 10162, 12021,
     12397, 19623, 20317, 21234, 1714,  24719, 27977, 12101, 19960, 35449,

@@ -9,7 +9,6 @@
 
 enum { CELLS = SECOND_CELLS, HEAD = 48 };
 #define POURED_MOST 1000000
-#define TOO_LONG 26 /* a time step, for the deepest cell */
 
 struct rows {
     int64_t h[CELLS], e[CELLS], u[CELLS], V[CELLS], Q[3 * (CELLS - 1)], F[3 * CELLS];
@@ -63,14 +62,14 @@ static size_t poured_place(const int64_t *s, size_t N)
 /* Whether a refusal is of what is given, and not of what comes of it. */
 static bool of_input(unsigned number)
 {
-    return (number >= PATHPETAL_SHAPE && number <= PATHPETAL_DOMINANCE) || number == TOO_LONG ||
+    return (number >= PATHPETAL_SHAPE && number <= PATHPETAL_DOMINANCE) || number == PATHPETAL_TIME_STEP ||
            number >= PATHPETAL_BAD_DEPTH;
 }
 
 /* Whether a refusal of a file is told after what is poured. */
 static bool after_poured(unsigned number)
 {
-    return number == PATHPETAL_DEPTH || number == TOO_LONG || number == PATHPETAL_DOMINANCE;
+    return number == PATHPETAL_DEPTH || number == PATHPETAL_TIME_STEP || number == PATHPETAL_DOMINANCE;
 }
 
 /* A channel that a call accepted, back in the bytes it came from. */

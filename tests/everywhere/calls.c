@@ -14,7 +14,7 @@
 
 #include <inttypes.h>
 
-enum { REASONS = 38, TOO_LONG = 26, STAGES = 11, EACH = 5000, MOST_DRAWN = 4000000 };
+enum { REASONS = 38, STAGES = 11, EACH = 5000, MOST_DRAWN = 4000000 };
 static const char *const names[DO_KINDS] = {"make", "step", "filter", "check", "run", "place", "feed", "read"};
 
 enum { V_HALVES, FLUX_HALVES, U_HALVES, MOVED_HALVES, FLOW_HALVES, FILTERED_HALVES, BY_LESS, THIN, BOUND, FAULTS, EDGE,
@@ -150,7 +150,7 @@ static bool lower_in_older(const struct record *r, unsigned number, unsigned pla
 static bool comes_to_time(unsigned number)
 {
     return number == 0 || (number >= PATHPETAL_DOMINANCE && number <= PATHPETAL_COMPLETE) || number == PATHPETAL_MORE ||
-           number == TOO_LONG;
+           number == PATHPETAL_TIME_STEP;
 }
 
 /* Whether the time step of such a call is next to its bound. */
@@ -213,7 +213,7 @@ static bool counted(const struct record *r, uint64_t answer)
     if (is_of_gauges(r, number))
         of_gauges[r->kind][number == PATHPETAL_OFFSETS]++;
     if (r->kind != DO_READ && comes_to_time(number))
-        bounded[r->kind][number != TOO_LONG] += next_to_bound(r, number == TOO_LONG);
+        bounded[r->kind][number != PATHPETAL_TIME_STEP] += next_to_bound(r, number == PATHPETAL_TIME_STEP);
     bool refused, stages = came_to_stages(r, answer, &refused);
     for (int start = 0; stages && start < STARTS; start++)
         started[r->kind][start][refused] += starts_from(r, start);
@@ -223,7 +223,7 @@ static bool counted(const struct record *r, uint64_t answer)
 /* What is known to occur. 6 is not: no channel is known that meets it. */
 static bool due(unsigned kind, unsigned number, unsigned stage)
 {
-    bool made = number == 1 || number == 2 || number == 4 || number == 5 || number == TOO_LONG ||
+    bool made = number == 1 || number == 2 || number == 4 || number == 5 || number == PATHPETAL_TIME_STEP ||
                 (number >= 31 && number <= 33);
     bool input = made || (number >= 12 && number <= 14) || (number >= 34 && number <= 36);
     switch (kind) {
@@ -380,8 +380,8 @@ static bool share_left(const struct record *c, uint64_t answer)
         return true;
     if (c->scene <= FAULTS && shown[c->scene][c->kind] < 400)
         return true;
-    if (c->kind != DO_READ && comes_to_time(number) && bounded[c->kind][number != TOO_LONG] < 150 &&
-        next_to_bound(c, number == TOO_LONG))
+    if (c->kind != DO_READ && comes_to_time(number) && bounded[c->kind][number != PATHPETAL_TIME_STEP] < 150 &&
+        next_to_bound(c, number == PATHPETAL_TIME_STEP))
         return true;
     if (has_place(number) && placed[c->kind][number][where(c, number, pathpetal_place(answer))] < 40)
         return true;

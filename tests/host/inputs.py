@@ -144,8 +144,8 @@ def long_steps(begin):
             write("bad.channel", data)
             allowed, calm = hasty_mend(327, 6541, 100)
             says = "pathpetal: bad.channel: refused, number 26: the time step is too long for the deepest cell: 100 ms, " \
-                f"with cells of 327 mm and a depth of 6,541 mm in cell {j + 1}\npathpetal: to mend: make it again from " \
-                f"its survey, with {allowed}\n{calm}\n"
+                f"with cells of 327 mm and a depth of 6,541 mm in cell {j + 1}\npathpetal: to mend: take a fresh copy of " \
+                f"the file, if it is damaged; or make it again from its survey, with {allowed}\n{calm}\n"
             for line in (("run", "bad.channel", "-o", "bad.end"), ("show", "bad.channel", "--svg", "bad.svg"),
                 ("check", "bad.channel"), ("check", "bad.channel", "--complete")):
                 before = listing()

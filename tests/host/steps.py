@@ -22,7 +22,8 @@ def narrowest(depth, step, square):
 def hasty_mend(width, depth, step):
     """What is said after 'to mend: ' and a verb where the time step is longer than is allowed, in two lines."""
     advised = longest(width, depth, ADVISED)
-    calm = f"at most {advised} ms is advised here" if advised else "wider cells are advised here, even for 1 ms"
+    calm = f"advised is at most {min(advised, 100)} ms with cells of {width:,} mm" if advised else \
+        f"advised are cells of at least {narrowest(depth, 1, ADVISED):,} mm, with 1 ms"
     return f"a time step of at most {longest(width, depth, ALLOWED)} ms, the longest that is allowed here, or cells of at " \
         f"least {narrowest(depth, step, ALLOWED):,} mm", \
         f"pathpetal: waves may still grow with what is allowed: {calm} (a Courant number of 0.35)"

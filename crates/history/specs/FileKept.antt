@@ -4,6 +4,7 @@ use Prim.Native.Nat.{ℕ, _+_, _≤_}
 use mathlib.Core.Path.{_≡_, refl, sym, _∙_, ap, subst}
 use mathlib.Core.List.{List}
 use native.Mathlib.Omega.{arith}
+use lib.Dec.{eqb}
 use lib.IntN.{_+ℤ_, +ℤ-idr, +ℤ-assoc}
 use lib.ListN.{length}
 use Rattle.rule.specs.declared.Answer.{Answer}
@@ -15,7 +16,9 @@ use Rattle.answers.specs.Stages.{leavesBytes}
 use Rattle.on_file.specs.Ran.{run-leaves, run-writes-all, run-writes-none}
 use Rattle.on_file.specs.Stays.{Refused, Stepless, step-refused-file-stays, filter-refused-file-stays, stepless-run-file-stays}
 use Rattle.packing.specs.Packed.{make-unpacked, check-unpacked}
+use Rattle.water.specs.Late.{Timely}
 use Rattle.history.specs.FileRule.{FileCall, pour, smooth, run-for, onBytes, fileAfter, heights}
+use Rattle.history.specs.FileLate.{file-timely}
 use Rattle.history.specs.Files.{taken-bounded, make-file-taken, check-taken}
 use Rattle.history.specs.FileCalls.{Run, entry, exit, check-bytes}
 use Rattle.history.specs.FileHistory.{FileStart, made, checked, c-made, c-checked, FileLink, FileHistory, none, then, pouredBy, poured, accepted, answer, ruled, callBy, calls}
@@ -104,6 +107,12 @@ file-start-taken (c-checked o z) =
 pub library-file-passes : {s t : List ℕ} → FileStart s → FileHistory s t → numberOf (read t) ≡ 0
 library-file-passes start none = file-start-taken start
 library-file-passes start (then h l) = left l .taken (library-file-passes start h)
+
+-- so that no call on them answers 26
+pub library-file-never-late : {s t after : List ℕ} → FileStart s → FileHistory s t → (l : FileLink t after) → Timely (answer l .number)
+unfolding ruled
+library-file-never-late {s} {t} start h l =
+    ap (λ (k : Called (List ℕ)). eqb (k .answer .number) 26) (told l) ∙ file-timely t (callBy l) (library-file-passes start h)
 
 -- where the count of accepted steps never passes the count that is wanted
 pub library-file-count-bounded : {s t : List ℕ} → FileStart s → FileHistory s t → countOf t 4 ≤ countOf t 5

@@ -17,6 +17,7 @@ pub mod Witness
 pub mod FileRule
 pub mod Files
 pub mod FileRuleKept
+pub mod FileLate
 pub mod FileCalls
 pub mod FileHistory
 pub mod FileTold

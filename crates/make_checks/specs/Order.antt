@@ -1,7 +1,7 @@
 -- Making over the bytes of a channel file: its order, the input checks, then 15, then the rest of make. Assumes nothing.
 use Prim.Native.Nat.{ℕ}
-use mathlib.Core.Path.{_≡_, refl, sym, _∙_, ap}
-use mathlib.Core.Bool.{Bool, true, false, cond, _&&_}
+use mathlib.Core.Path.{_≡_, refl, sym, ap}
+use mathlib.Core.Bool.{Bool, true, false, _&&_}
 use mathlib.Core.List.{List}
 use borrow.Author.Tests.{ne-eqb, eq-eqb, eqb-true}
 use lib.Dec.{eqb}
@@ -10,7 +10,7 @@ use Rattle.rule.specs.declared.Fault.{Fault}
 use Rattle.rule.specs.Rows.{Row}
 use Rattle.rule.specs.Ranges.{cellsAllowed}
 use Rattle.rule.specs.Channel.{Channel}
-use Rattle.rule.specs.Refusals.{Outcome, refused, done, number, place, numberOf, placeOf, faultOf, _>>=_, require, bufferLength}
+use Rattle.rule.specs.Refusals.{Outcome, number, place, numberOf, placeOf, faultOf, _>>=_, require, bufferLength}
 use Rattle.rule.specs.Make.{makeChecked, make}
 use Rattle.rule.specs.Layout.{lengthOf}
 use Rattle.rule.specs.File.{edition, fileOf}

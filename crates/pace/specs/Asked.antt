@@ -11,7 +11,7 @@ pub record Depths (n : ℕ) (h : Row) : Type 0 where
   pub small : Within mostDepth n h
 
 -- cells of width x, and the time step t
-pub record Paced (n x t : ℕ) (h : Row) : Type 0 where
+pub record Measures (n x t : ℕ) (h : Row) : Type 0 where
   pub depths : Depths n h
   pub wide : x ≤ mostWidth
   pub short : t ≤ mostTime

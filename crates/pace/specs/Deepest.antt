@@ -1,7 +1,7 @@
 -- Refusal numbers: the deepest of n cells is as deep as each of them, and one of them. Assumes nothing.
 use Prim.Native.Nat.{ℕ, zero, suc, _+_, _*_, _≤_, _<_}
 use mathlib.Core.Path.{_≡_, refl, _∙_, ap}
-use mathlib.Core.Bool.{Bool, true, false, cond}
+use mathlib.Core.Bool.{Bool, true, false}
 use native.Mathlib.Decide.{decLt}
 use native.Mathlib.Nat.{mul-le-mul}
 use native.Mathlib.Numerals.{add-one}
@@ -12,11 +12,11 @@ use lib.IntN.{natAbs}
 use Rattle.whole.specs.Row.{Within}
 use Rattle.rule.specs.Rows.{Row, cell}
 use Rattle.rule.specs.Ranges.{mostWidth, mostTime, mostDepth}
-use Rattle.rule.specs.Refusals.{require, number, place, numberOf, placeOf, faultOf, timeStep}
+use Rattle.rule.specs.Refusals.{require, number, place, numberOf, placeOf, faultOf}
 use Rattle.rule.specs.Checks.{larger, deepest, timed}
 use Rattle.places.specs.Faults.{plain, none}
 
--- the larger of two is one of them, and as large as both
+-- the larger of two is as large as both, and no larger than what both are at most
 pub record Larger (a b : ℕ) : Type 0 where
   pub first : a ≤ larger a b
   pub second : b ≤ larger a b
@@ -64,17 +64,17 @@ module _ (h : Row) where
       let k : natAbs (cell h n) ≡ natAbs (cell h j) = ap (λ i. natAbs (cell h i)) e in
       omega (arith, k, larger-of (deepest n h) (natAbs (cell h n)) .second)
 
-  pub deepest-least : (n j : ℕ) → j < n → natAbs (cell h j) ≤ deepest n h
-  deepest-least zero j l = absurd (omega arith)
-  deepest-least (suc n) j l = last-or-before n j l (decLt j n) (deepest-least n j)
+  pub none-deeper : (n j : ℕ) → j < n → natAbs (cell h j) ≤ deepest n h
+  none-deeper zero j l = absurd (omega arith)
+  none-deeper (suc n) j l = last-or-before n j l (decLt j n) (none-deeper n j)
 
   -- and one is as deep
-  pub record Met (n : ℕ) : Type 0 where
+  pub record Found (n : ℕ) : Type 0 where
     pub place : ℕ
     pub among : place < n
     pub is : natAbs (cell h place) ≡ deepest n h
 
-  by-last : (n : ℕ) (t : Bool) → leb (deepest n h) (natAbs (cell h n)) ≡ t → (1 ≤ n → Met n) → Met (suc n)
+  by-last : (n : ℕ) (t : Bool) → leb (deepest n h) (natAbs (cell h n)) ≡ t → (1 ≤ n → Found n) → Found (suc n)
   unfolding deepest
   by-last n true e before = record { place = n; among = omega arith; is = second-larger (deepest n h) (natAbs (cell h n)) (leb-true _ _ e) }
   by-last zero false e before = absurd (let l = leb-false (deepest 0 h) (natAbs (cell h 0)) e in omega (arith, l))
@@ -82,21 +82,21 @@ module _ (h : Row) where
       let m = before (omega arith) in
       record { place = m .place; among = omega (arith, m .among); is = m .is ∙ first-larger (deepest (suc n) h) (natAbs (cell h (suc n))) (leb-false _ _ e) }
 
-  pub deepest-met : (n : ℕ) → 1 ≤ n → Met n
-  deepest-met zero l = absurd (omega arith)
-  deepest-met (suc n) l = by-last n (leb (deepest n h) (natAbs (cell h n))) refl (deepest-met n)
+  pub deepest-found : (n : ℕ) → 1 ≤ n → Found n
+  deepest-found zero l = absurd (omega arith)
+  deepest-found (suc n) l = by-last n (leb (deepest n h) (natAbs (cell h n))) refl (deepest-found n)
 
--- the two sides of 26 are far below what 64 bits hold
-pub square-small : {t : ℕ} → t ≤ mostTime → t * t ≤ 10_000
-square-small h = mul-le-mul h h
+-- T·T, the left side of 26 and X·X are far below what 64 bits hold
+pub time-small : {t : ℕ} → t ≤ mostTime → t * t ≤ 10_000
+time-small h = mul-le-mul h h
 
 pub left-small : (n T : ℕ) (h : Row) → Within mostDepth n h → T ≤ mostTime → 9_810 * deepest n h * (T * T) ≤ 1_962_000_000_000
 left-small n T h w short =
     let d : 9_810 * deepest n h ≤ 196_200_000 = omega (arith, deepest-within h mostDepth n w) in
-    mul-le-mul d (square-small short)
+    mul-le-mul d (time-small short)
 
-pub right-small : {X : ℕ} → X ≤ mostWidth → X * X ≤ 25_000_000
-right-small h = mul-le-mul h h
+pub width-small : {X : ℕ} → X ≤ mostWidth → X * X ≤ 25_000_000
+width-small h = mul-le-mul h h
 
 -- 26, and its passing
 module _ (n X T : ℕ) (h : Row) where

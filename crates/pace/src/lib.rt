@@ -2,7 +2,7 @@
 ghost use mathlib.Core.Path.{_≡_};
 ghost use Rattle.rule.specs.Checks.{larger, deepest, timed};
 ghost use Rattle.rule.specs.Refusals.{faultOf};
-ghost use Rattle.pace.specs.Asked.{Depths, Paced};
+ghost use Rattle.pace.specs.Asked.{Depths, Measures};
 
 fn larger(a: u64, b: u64) -> u64
     ensures { λ r. ⌜ r ≡ larger a b ⌝ }
@@ -26,7 +26,7 @@ pub fn deepest(n: usize, h: &[i64]) -> u64
 
 // 26 where the time step is too long for the deepest of n cells, or none.
 pub fn check(n: usize, x: u64, t: u64, h: &[i64]) -> rule::Fault
-    requires { ⌜ Paced n x t (now h) ⌝ }
+    requires { ⌜ Measures n x t (now h) ⌝ }
     ensures { λ r. ⌜ r ≡ faultOf (timed n x t (now (h .entry))) ⌝ }
 {
     if 9810 * deepest(n, h) * (t * t) > 6000000 * (x * x) {

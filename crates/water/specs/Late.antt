@@ -1,6 +1,6 @@
 -- Refusal numbers: X, T and the depths stay, so that a channel which passed the input checks never meets 26 later, whatever is called on it. Assumes nothing.
 use Prim.Native.Nat.{ℕ, zero, suc}
-use mathlib.Core.Path.{_≡_, refl, sym, _∙_, ap, subst}
+use mathlib.Core.Path.{_≡_, refl}
 use mathlib.Core.Bool.{Bool, true, false, cond}
 use mathlib.Core.List.{List, [], _∷_}
 use lib.Dec.{eqb}
@@ -8,46 +8,28 @@ use lib.IntN.{pos}
 use lib.ListN.{replicate}
 use Rattle.rule.specs.Rows.{Row}
 use Rattle.rule.specs.Channel.{Channel}
-use Rattle.rule.specs.Refusals.{Refusal, number, Outcome, refused, done, numberOf, _>>=_, require, at, shape, counts, depthValue, heightValue, velocityValue, reducedValue, fluxValue, accelerationValue, pouredValue, depth, dominance, pivot, speed, height, flux, complete}
+use Rattle.rule.specs.Refusals.{number, Outcome, refused, done, numberOf, _>>=_, at, shape, counts, depthValue, heightValue, velocityValue, reducedValue, fluxValue, accelerationValue, pouredValue, depth, dominance, pivot, speed, height, flux, complete}
 use Rattle.rule.specs.Flux.{fluxes}
 use Rattle.rule.specs.Solve.{solve}
-use Rattle.rule.specs.Checks.{each, eachLevel, deep, timed, wet, pourable, allowed, checked, isComplete, ready}
+use Rattle.rule.specs.Checks.{deep, timed, wet, pourable, allowed, checked, isComplete, ready}
 use Rattle.rule.specs.Step.{Trial, Stepped, tried, stage, prediction, correction, settled, corrections, step}
 use Rattle.rule.specs.Filter.{filter}
-use Rattle.rule.specs.Run.{Ran, whole, paused, runOn, run, runFor}
+use Rattle.rule.specs.Run.{whole, paused, runOn, run, runFor}
 use Rattle.rule.specs.Calls.{called, plainly, ended, ran, stepCall, filterCall, runCall, runForCall}
+use Rattle.checks.specs.Numbers.{Meets, meets-then, meets-last, meets-test, meets-each, meets-levels}
 use Rattle.checks.specs.Allowed.{allowed-of}
 use Rattle.water.specs.Again.{step-passes}
 
--- a refusal by another number than 26
+-- another number than 26
 abbrev pub Timely : ℕ → Type 0
 Timely n = eqb n 26 ≡ false
 
-abbrev Refuses : {A : Type 0} → Outcome A → Type 0
-Refuses (refused r k) = Timely (number r)
-Refuses (done a) = Unit {0}
+-- a refusal by another number, at whatever stage
+abbrev pub InTime : ℕ → ℕ → Type 0
+InTime n k = Timely n
 
-refuses-then : {A B : Type 0} (m : Outcome A) (f : A → Outcome B) → Refuses m → ((a : A) → Refuses (f a)) → Refuses (m >>= f)
-unfolding _>>=_
-refuses-then (refused r k) f h g = h
-refuses-then (done a) f h g = g a
-
-refuses-last : (b : Bool) (r : Refusal) → Timely (number r) → Refuses (require b r)
-unfolding require
-refuses-last true r p = tt
-refuses-last false r p = p
-
-refuses-test : {B : Type 0} (b : Bool) (r : Refusal) (f : Unit {0} → Outcome B) → Timely (number r) → Refuses (f tt) → Refuses (require b r >>= f)
-refuses-test b r f p h = refuses-then (require b r) f (refuses-last b r p) (λ _. h)
-
-refuses-each : {A : Type 0} (p : A → Bool) (row : List A) (r : ℕ → Refusal) → ((j : ℕ) → Timely (number (r j))) → Refuses (each p row r)
-unfolding each
-refuses-each p row r h = refuses-last _ _ (h _)
-
-refuses-levels : {A : Type 0} (m : ℕ) (p : A → Bool) (levels : List A) (r : ℕ → Refusal) → ((j : ℕ) → Timely (number (r j))) → Refuses (eachLevel m p levels r)
-unfolding eachLevel
-refuses-levels m p levels r h =
-    refuses-then _ _ (refuses-each p _ r h) (λ _. refuses-then _ _ (refuses-each p _ r h) (λ _. refuses-each p _ r h))
+abbrev pub Refuses : {A : Type 0} → Outcome A → Type 0
+Refuses m = Meets InTime m
 
 refuses-at : {A : Type 0} (k : ℕ) (m : Outcome A) → Refuses m → Refuses (at k m)
 unfolding at
@@ -60,28 +42,28 @@ refuses-cond false x y p q = q
 
 deep-timely : (n : ℕ) (h e : Row) → Refuses (deep n h e)
 unfolding deep number
-deep-timely n h e = refuses-each _ _ depth (λ j. refl)
+deep-timely n h e = meets-each InTime _ _ depth (λ j. refl)
 
 pours-timely : (poured : List Row) → Refuses (pourable poured)
 unfolding pourable number
 pours-timely [] = tt
-pours-timely (s ∷ more) = refuses-then _ _ (refuses-each _ s pouredValue (λ j. refl)) (λ _. pours-timely more)
+pours-timely (s ∷ more) = meets-then InTime _ _ (meets-each InTime _ s pouredValue (λ j. refl)) (λ _. pours-timely more)
 
 -- what a stage is refused by
 tried-timely : (c : Channel) (e v : Row) → Refuses (tried c e v)
 unfolding tried solve fluxes number
 tried-timely c e v =
-    refuses-test _ height _ refl
-    (refuses-then _ _ (deep-timely (c .N) (c .h) e) (λ _.
-    refuses-test _ speed _ refl
-    (refuses-then _ _ (refuses-test _ pivot _ refl (refuses-test _ speed _ refl tt)) (λ u.
-    refuses-then _ _ (refuses-test _ flux _ refl tt) (λ Q. tt)))))
+    meets-test InTime _ height _ refl
+    (meets-then InTime _ _ (deep-timely (c .N) (c .h) e) (λ _.
+    meets-test InTime _ speed _ refl
+    (meets-then InTime _ _ (meets-test InTime _ pivot _ refl (meets-test InTime _ speed _ refl tt)) (λ u.
+    meets-then InTime _ _ (meets-test InTime _ flux _ refl tt) (λ Q. tt)))))
 
 corrections-timely : (c : Channel) (s : Row) (left k : ℕ) (old : Trial) → Refuses (corrections c s left k old)
 unfolding corrections correction stage number
 corrections-timely c s zero k old = refl
 corrections-timely c s (suc left) k old =
-    refuses-then _ _ (refuses-at k (correction c s old) (tried-timely c _ _)) (λ new.
+    meets-then InTime _ _ (refuses-at k (correction c s old) (tried-timely c _ _)) (λ new.
     refuses-cond (settled (c .N) new old) _ _ tt (corrections-timely c s left (suc k) new))
 
 -- a channel whose time step is allowed
@@ -92,38 +74,41 @@ module _ (c : Channel) (paced : Paced c) where
   pace-timely : Refuses (timed (c .N) (c .X) (c .T) (c .h))
   pace-timely = rw paced tt
 
-  -- and so is what the input checks refuse it by, whatever is poured
+  -- what the input checks refuse it by, whatever is poured
+  pub allowed-timely : (poured : List Row) → Refuses (allowed c poured)
+  unfolding allowed wet number
+  allowed-timely poured =
+      meets-test InTime _ counts _ refl
+      (meets-then InTime _ _ (meets-each InTime _ (c .h) depthValue (λ j. refl)) (λ _.
+      meets-then InTime _ _ (meets-each InTime _ (c .e) heightValue (λ j. refl)) (λ _.
+      meets-then InTime _ _ (meets-each InTime _ (c .u) velocityValue (λ j. refl)) (λ _.
+      meets-then InTime _ _ (meets-each InTime _ (c .v) reducedValue (λ j. refl)) (λ _.
+      meets-then InTime _ _ (meets-levels InTime _ _ (c .Q) fluxValue (λ j. refl)) (λ _.
+      meets-then InTime _ _ (meets-levels InTime _ _ (c .F) accelerationValue (λ j. refl)) (λ _.
+      meets-then InTime _ _ (pours-timely poured) (λ _.
+      meets-then InTime _ _ (deep-timely (c .N) (c .h) (c .e)) (λ _.
+      meets-then InTime _ _ pace-timely (λ _.
+      meets-each InTime _ _ dominance (λ j. refl)))))))))))
+
   checked-timely : (poured : List Row) → Refuses (checked c poured)
-  unfolding checked allowed wet number
-  checked-timely poured =
-      refuses-test _ shape _ refl
-      (refuses-test _ counts _ refl
-      (refuses-then _ _ (refuses-each _ (c .h) depthValue (λ j. refl)) (λ _.
-      refuses-then _ _ (refuses-each _ (c .e) heightValue (λ j. refl)) (λ _.
-      refuses-then _ _ (refuses-each _ (c .u) velocityValue (λ j. refl)) (λ _.
-      refuses-then _ _ (refuses-each _ (c .v) reducedValue (λ j. refl)) (λ _.
-      refuses-then _ _ (refuses-levels _ _ (c .Q) fluxValue (λ j. refl)) (λ _.
-      refuses-then _ _ (refuses-levels _ _ (c .F) accelerationValue (λ j. refl)) (λ _.
-      refuses-then _ _ (pours-timely poured) (λ _.
-      refuses-then _ _ (deep-timely (c .N) (c .h) (c .e)) (λ _.
-      refuses-then _ _ pace-timely (λ _.
-      refuses-each _ _ dominance (λ j. refl))))))))))))
+  unfolding checked number
+  checked-timely poured = meets-test InTime _ shape _ refl (allowed-timely poured)
 
   ready-timely : (poured : List Row) → Refuses (ready c poured)
   unfolding ready number
-  ready-timely poured = refuses-then (checked c poured) _ (checked-timely poured) (λ _. refuses-last _ complete refl)
+  ready-timely poured = meets-then InTime (checked c poured) _ (checked-timely poured) (λ _. meets-last InTime _ complete refl)
 
   step-refuses : (s : Row) → Refuses (step c s)
   unfolding step prediction stage
   step-refuses s =
-      refuses-then (ready c (s ∷ [])) _ (ready-timely (s ∷ [])) (λ _.
-      refuses-then (prediction c s) _ (tried-timely c _ _) (λ t. corrections-timely c s 10 1 t))
+      meets-then InTime (ready c (s ∷ [])) _ (ready-timely (s ∷ [])) (λ _.
+      meets-then InTime (prediction c s) _ (tried-timely c _ _) (λ t. corrections-timely c s 10 1 t))
 
   filter-refuses : Refuses (filter c)
   unfolding filter
   filter-refuses =
-      refuses-then (ready c []) _ (ready-timely []) (λ _.
-      refuses-then _ _ (tried-timely c _ _) (λ _. tt))
+      meets-then InTime (ready c []) _ (ready-timely []) (λ _.
+      meets-then InTime _ _ (tried-timely c _ _) (λ _. tt))
 
 -- the number of a call's answer
 called-timely : {A B : Type 0} (lent : A) (count : B → ℕ) (after : B → A) (o : Outcome B) → Refuses o → Timely (called lent count after o .answer .number)

@@ -4,7 +4,7 @@ use mathlib.Core.Path.{sym}
 use native.Mathlib.Omega.{arith}
 use borrow.Author.Needs.{needs}
 use Rattle.rule.specs.Ranges.{mostDepth}
-use Rattle.pace.specs.Deepest.{deepest-within, square-small, left-small, right-small, timed-26, timed-0}
+use Rattle.pace.specs.Deepest.{deepest-within, time-small, left-small, width-small, timed-26, timed-0}
 use Rattle.pace.proofs.check.Statement.{statement}
 use Rattle.pace.proofs.check.Tie as tie
 
@@ -23,16 +23,16 @@ mul-if1 c =
     omega (arith, c .deepest .ensures, deepest-within (s .args .h .now) mostDepth (s .args .n) (s .pre .depths .small))
 
 mul-if1-2 : tie.Need-mul-if1-2
-mul-if1-2 c = omega (arith, square-small (c .before .pre .short))
+mul-if1-2 c = omega (arith, time-small (c .before .pre .short))
 
 mul-if1-3 : tie.Need-mul-if1-3
 mul-if1-3 c = omega (arith, left-fits c)
 
 mul-if1-4 : tie.Need-mul-if1-4
-mul-if1-4 c = omega (arith, right-small (c .before .pre .wide))
+mul-if1-4 c = omega (arith, width-small (c .before .pre .wide))
 
 mul-if1-5 : tie.Need-mul-if1-5
-mul-if1-5 c = omega (arith, right-small (c .before .pre .wide))
+mul-if1-5 c = omega (arith, width-small (c .before .pre .wide))
 
 returns : tie.Need-returns
 returns c =
