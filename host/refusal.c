@@ -150,19 +150,25 @@ static struct measures measures_in(const struct rows *rows)
     return (struct measures){depth, rows->width, rows->step};
 }
 
-/* Whether the library allows the time step: a Courant number whose square is at most 6. */
+/* Whether the square of the Courant number, sqrt(9.81 depth) step / width in m and s, is at most so many millionths: no
+   root is rounded. */
+static bool square_within(struct measures of, uint64_t millionths)
+{
+    return 9810 * of.depth * of.step * of.step <= millionths * of.width * of.width;
+}
+
+/* Whether the library allows the time step. */
 static bool is_allowed(struct measures of)
 {
-    return 9810 * of.depth * of.step * of.step <= 6000000 * of.width * of.width;
+    return square_within(of, 6000000);
 }
 
 enum { COURANT_ADVISED = 350 }; /* thousandths, by docs/CHOOSING.md */
 
-/* Whether the Courant number, sqrt(9.81 depth) step / width in m and s, is at most so many thousandths; both sides
-   squared, so that no root is rounded. */
+/* Whether the Courant number is at most so many thousandths. */
 static bool courant_within(struct measures of, uint64_t thousandths)
 {
-    return 9810 * of.depth * of.step * of.step <= thousandths * thousandths * of.width * of.width;
+    return square_within(of, thousandths * thousandths);
 }
 
 /* The longest time step that is advised; 0 where 1 ms is too long. */
