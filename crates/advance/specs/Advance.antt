@@ -6,9 +6,9 @@ use native.Mathlib.Numerals.{add-one}
 use native.Mathlib.Omega.{arith}
 use borrow.Author.Tests.{ne-eqb}
 use lib.Dec.{eqb}
-use Rattle.whole.specs.Row.{length-tab}
+use Rattle.whole.specs.Row.{length-tab, Within}
 use Rattle.rule.specs.Rows.{Row}
-use Rattle.rule.specs.Ranges.{mostHeight, mostVelocity, mostFlux, mostAcceleration, leastCells, mostCells, leastWidth}
+use Rattle.rule.specs.Ranges.{mostHeight, mostVelocity, mostFlux, mostAcceleration, mostDamping, leastCells, mostCells, leastWidth}
 use Rattle.rule.specs.Channel.{Channel, channel}
 use Rattle.rule.specs.Refusals.{Outcome, done}
 use Rattle.rule.specs.Step as rule
@@ -38,7 +38,7 @@ advanced c r =
     }
 
 -- what a correction asks: of the rows that are stored what the prediction asked, and of the trial before its Q and F
-pub asks : {n x t : ℕ} {h e v q f s : Row} → Staging n x t h e v q f s q f → (old : Trial) → Kept n old → Staging n x t h e v q f s (old .q) (old .f)
+pub asks : {n x t : ℕ} {h e v q f damping s : Row} → Staging n x t h e v q f damping s q f → (old : Trial) → Kept n old → Staging n x t h e v q f damping s (old .q) (old .f)
 asks {n} g old k =
     record {
       least = g .least;
@@ -51,6 +51,7 @@ asks {n} g old k =
       v-long = g .v-long;
       q-long = g .q-long;
       f-long = g .f-long;
+      damping-long = g .damping-long;
       s-long = g .s-long;
       before-q-long = omega (arith, k .q-full, g .most);
       before-f-long = omega (arith, k .f-full, g .most);
@@ -59,6 +60,7 @@ asks {n} g old k =
       v-small = g .v-small;
       q-small = g .q-small;
       f-small = g .f-small;
+      damping-small = g .damping-small;
       s-small = g .s-small;
       before-q-small = within-array mostFlux (n - 1) (old .q) (k .sound .Q-small);
       before-f-small = within-array mostAcceleration n (old .f) (k .sound .F-small);
@@ -87,9 +89,9 @@ pub settled-is : (n : ℕ) (new old : Trial) → rule.settledRow n (firsts n (ne
 unfolding rule.settled
 settled-is n new old = refl
 
-module _ (n x t accepted : ℕ) (h e v q f s : Row) where
+module _ (n x t accepted : ℕ) (h e v q f damping s : Row) where
   abbrev pub on : ℕ → Row → Channel
-  on wanted u = channel n x t accepted wanted h e u v q f
+  on wanted u = channel n x t accepted wanted h e u v q f damping
 
   -- r is how the stages end, whatever the steps wanted and the stored u
   pub record Advances (r : Advanced) : Type 0 where
@@ -103,7 +105,7 @@ module _ (n x t accepted : ℕ) (h e v q f s : Row) where
 
   -- the outcome of a stage, of the channel that moves
   abbrev pub staged : Bool → Row → Row → Outcome rule.Trial
-  staged corrects before-q before-f = rule.stage (moving n x t h e v) s (weightsOf corrects accepted) (levelsOf corrects (n - 1) before-q q) (levelsOf corrects n before-f f)
+  staged corrects before-q before-f = rule.stage (moving n x t h e v damping) s (weightsOf corrects accepted) (levelsOf corrects (n - 1) before-q q) (levelsOf corrects n before-f f)
 
   predicts : (w : ℕ) (u : Row) → rule.prediction (on w u) s ≡ staged false q f
   unfolding rule.prediction rule.stage rule.tried rule.raised rule.hastened rule.moves rule.faceDivisor
@@ -117,10 +119,10 @@ module _ (n x t accepted : ℕ) (h e v q f s : Row) where
   unfolding rule.stage
   staged-met b before-q before-f = tried-met _ _ _
 
-  module _ (least : leastCells ≤ n) (most : n ≤ mostCells) (wide : leastWidth ≤ x) where
+  module _ (least : leastCells ≤ n) (most : n ≤ mostCells) (wide : leastWidth ≤ x) (dampings : Within mostDamping n damping) where
     staged-sound : (b : Bool) (before-q before-f : Row) (z : rule.Trial) → staged b before-q before-f ≡ done z → Sound n z
     unfolding rule.stage rule.raised rule.hastened
-    staged-sound b before-q before-f z p = tried-sound (moving n x t h e v) _ _ z least wide (length-tab n _) (length-tab n _) p
+    staged-sound b before-q before-f z p = tried-sound (moving n x t h e v damping) _ _ z least wide (length-tab n _) (length-tab n _) dampings p
 
     -- the prediction
     module _ (r : Trial) (p : r ≡ trialOf n (staged false q f)) where

@@ -16,12 +16,13 @@ pub fn advance(
     v: &[i64],
     q: &[i64],
     f: &[i64],
+    damping: &[i64],
     s: &[i64],
 ) -> Advanced
-    requires { ⌜ Staging (c .n) (c .x) (c .t) (now h) (now e) (now v) (now q) (now f) (now s) (now q) (now f) ⌝ }
-    ensures { λ r. ⌜ Advances (c .n) (c .x) (c .t) (c .accepted) (now (h .entry)) (now (e .entry)) (now (v .entry)) (now (q .entry)) (now (f .entry)) (now (s .entry)) r ⌝ }
+    requires { ⌜ Staging (c .n) (c .x) (c .t) (now h) (now e) (now v) (now q) (now f) (now damping) (now s) (now q) (now f) ⌝ }
+    ensures { λ r. ⌜ Advances (c .n) (c .x) (c .t) (c .accepted) (now (h .entry)) (now (e .entry)) (now (v .entry)) (now (q .entry)) (now (f .entry)) (now (damping .entry)) (now (s .entry)) r ⌝ }
 {
-    let mut old = stage::stage(false, c, h, e, v, q, f, s, q, f);
+    let mut old = stage::stage(false, c, h, e, v, q, f, damping, s, q, f);
     let predicted = old.fault;
     if predicted.number != 0 {
         return Advanced {
@@ -39,7 +40,7 @@ pub fn advance(
         let before_u: &[i64] = &velocities;
         let before_q: &[i64] = &fluxes;
         let before_f: &[i64] = &accelerations;
-        let new = stage::stage(true, c, h, e, v, q, f, s, before_q, before_f);
+        let new = stage::stage(true, c, h, e, v, q, f, damping, s, before_q, before_f);
         let corrected = new.fault;
         if corrected.number != 0 {
             return Advanced {

@@ -80,7 +80,7 @@ module _ (c : Channel) (s : Row) where
         }
 
     -- what the stages ask
-    pub stages-ask : Staging (c .N) (c .X) (c .T) (c .h) (c .e) (c .v) (c .Q) (c .F) s (c .Q) (c .F)
+    pub stages-ask : Staging (c .N) (c .X) (c .T) (c .h) (c .e) (c .v) (c .Q) (c .F) (c .damping) s (c .Q) (c .F)
     stages-ask =
         let a = allowed-of c (s ∷ []) (sym e) in
         let p = poured-of c s (sym e) in
@@ -95,6 +95,7 @@ module _ (c : Channel) (s : Row) where
           v-long = omega (arith, a .levels .v-long);
           q-long = omega (arith, a .levels .Q-long);
           f-long = omega (arith, a .levels .F-long);
+          damping-long = omega (arith, a .damping .long);
           s-long = omega (arith, p .s-long);
           before-q-long = omega (arith, a .levels .Q-long);
           before-f-long = omega (arith, a .levels .F-long);
@@ -103,12 +104,13 @@ module _ (c : Channel) (s : Row) where
           v-small = a .levels .v-small;
           q-small = a .levels .Q-small;
           f-small = a .levels .F-small;
+          damping-small = a .damping .small;
           s-small = p .s-small;
           before-q-small = record { at = λ i l. a .levels .Q-small .at i (omega arith) };
           before-f-small = record { at = λ i l. a .levels .F-small .at i (omega arith) };
         }
 
-    pub attempt-goes : (r : Advanced) → (c .accepted ≡ c .wanted → ⊥) → Advances (c .N) (c .X) (c .T) (c .accepted) (c .h) (c .e) (c .v) (c .Q) (c .F) s r → Attempted c s r
+    pub attempt-goes : (r : Advanced) → (c .accepted ≡ c .wanted → ⊥) → Advances (c .N) (c .X) (c .T) (c .accepted) (c .h) (c .e) (c .v) (c .Q) (c .F) (c .damping) s r → Attempted c s r
     unfolding isComplete
     attempt-goes r d g =
         let a = allowed-of c (s ∷ []) (sym e) in
@@ -140,10 +142,10 @@ count-fits a z = record { fits = omega (arith, a .more z, a .allowed z .counts .
 pub step-refused : {c : Channel} {s : Row} {r : Advanced} → Attempted c s r → (r .answer .number ≡ 0 → ⊥) → leaves (r .answer) c ≡ stepCall c s
 step-refused {c} {s} {r} a z = rw (← a .is) (rw (ne-eqb (r .answer .number) 0 z))
 
-module _ {n x t accepted wanted : ℕ} {h e u v q f s : Row} {r : Advanced} (a : Attempted (channel n x t accepted wanted h e u v q f) s r) (z : r .answer .number ≡ 0) where
+module _ {n x t accepted wanted : ℕ} {h e u v q f damping s : Row} {r : Advanced} (a : Attempted (channel n x t accepted wanted h e u v q f damping) s r) (z : r .answer .number ≡ 0) where
   -- with the rows as they were stored
-  pub step-accepted : (k : ℕ) (e′ u′ v′ q′ f′ : Row) → k ≡ suc accepted → e′ ≡ firsts n (r .trial .e) → u′ ≡ firsts n (r .trial .u) → v′ ≡ firsts n (r .trial .v) → q′ ≡ pushed (n - 1) (firsts (n - 1) (r .trial .q)) q → f′ ≡ pushed n (firsts n (r .trial .f)) f → leaves (r .answer) (channel n x t k wanted h e′ u′ v′ q′ f′) ≡ stepCall (channel n x t accepted wanted h e u v q f) s
+  pub step-accepted : (k : ℕ) (e′ u′ v′ q′ f′ : Row) → k ≡ suc accepted → e′ ≡ firsts n (r .trial .e) → u′ ≡ firsts n (r .trial .u) → v′ ≡ firsts n (r .trial .v) → q′ ≡ pushed (n - 1) (firsts (n - 1) (r .trial .q)) q → f′ ≡ pushed n (firsts n (r .trial .f)) f → leaves (r .answer) (channel n x t k wanted h e′ u′ v′ q′ f′ damping) ≡ stepCall (channel n x t accepted wanted h e u v q f damping) s
   unfolding rule.accept
   step-accepted k e′ u′ v′ q′ f′ p₀ p₁ p₂ p₃ p₄ p₅ =
-      (λ i. leaves (r .answer) (channel n x t (p₀ i) wanted h (p₁ i) (p₂ i) (p₃ i) (p₄ i) (p₅ i)))
+      (λ i. leaves (r .answer) (channel n x t (p₀ i) wanted h (p₁ i) (p₂ i) (p₃ i) (p₄ i) (p₅ i) damping))
       ∙ rw (eq-eqb (r .answer .number) 0 z) at (a .is)

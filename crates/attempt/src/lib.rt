@@ -24,11 +24,12 @@ pub fn attempt(
     v: &[i64],
     q: &[i64],
     f: &[i64],
+    damping: &[i64],
     s: &[i64],
 ) -> advance::Advanced
-    ensures { λ r. ⌜ Attempted (counted c (now (h .entry)) (now (e .entry)) (now (u .entry)) (now (v .entry)) (now (q .entry)) (now (f .entry))) (now (s .entry)) r ⌝ }
+    ensures { λ r. ⌜ Attempted (counted c (now (h .entry)) (now (e .entry)) (now (u .entry)) (now (v .entry)) (now (q .entry)) (now (f .entry)) (now (damping .entry))) (now (s .entry)) r ⌝ }
 {
-    let fault = checks::check(c, h, e, u, v, q, f, true, s);
+    let fault = checks::check(c, h, e, u, v, q, f, damping, true, s);
     if fault.number != 0 {
         return refused(fault);
     }
@@ -38,5 +39,5 @@ pub fn attempt(
             place: 0,
         });
     }
-    advance::advance(c, h, e, v, q, f, s)
+    advance::advance(c, h, e, v, q, f, damping, s)
 }

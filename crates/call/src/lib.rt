@@ -31,16 +31,17 @@ pub fn called(
     v: &mut [i64],
     q: &mut [i64],
     f: &mut [i64],
+    damping: &[i64],
     s: &[i64],
 ) -> rule::Left
-    ensures { λ r. ⌜ left c r (now (h .entry)) (now (e .exit)) (now (u .exit)) (now (v .exit)) (now (q .exit)) (now (f .exit)) ≡ callOf call (now (s .entry)) (counted c (now (h .entry)) (now (e .entry)) (now (u .entry)) (now (v .entry)) (now (q .entry)) (now (f .entry))) ⌝ }
+    ensures { λ r. ⌜ left c r (now (h .entry)) (now (e .exit)) (now (u .exit)) (now (v .exit)) (now (q .exit)) (now (f .exit)) (now (damping .entry)) ≡ callOf call (now (s .entry)) (counted c (now (h .entry)) (now (e .entry)) (now (u .entry)) (now (v .entry)) (now (q .entry)) (now (f .entry)) (now (damping .entry))) ⌝ }
 {
     match call {
-        Call::Step => step::step(c, h, e, u, v, q, f, s),
+        Call::Step => step::step(c, h, e, u, v, q, f, damping, s),
         Call::Filter => rule::Left {
-            answer: filter::filter(c, h, e, u, v, q, f),
+            answer: filter::filter(c, h, e, u, v, q, f, damping),
             accepted: c.accepted,
         },
-        Call::Run(most) => run_for::run_for(most, c, h, e, u, v, q, f),
+        Call::Run(most) => run_for::run_for(most, c, h, e, u, v, q, f, damping),
     }
 }

@@ -1,4 +1,4 @@
-// "Refusal numbers": the checks of an input, in the order 1, 2, 31 to 37, 4, 26, 5.
+// "Refusal numbers": the checks of an input, in the order 1, 2, 31 to 36, 38, 37, 4, 26, 5.
 ghost use mathlib.Core.Path.{_≡_};
 ghost use mathlib.Core.Bool.{_&&_};
 ghost use mathlib.Core.List.{[], _∷_};
@@ -111,8 +111,17 @@ pub fn counts_allowed(x: u64, t: u64, wanted: u64, accepted: u64) -> bool
 }
 
 // 1: N, and the lengths of the channel's rows. N is tested first, so that 3N does not wrap.
-pub fn shaped(n: usize, h: &[i64], e: &[i64], u: &[i64], v: &[i64], q: &[i64], f: &[i64]) -> bool
-    ensures { λ r. ⌜ r ≡ rule.cellsAllowed n && same (map length (now (h .entry) ∷ now (e .entry) ∷ now (u .entry) ∷ now (v .entry) ∷ now (q .entry) ∷ now (f .entry) ∷ [])) (lengths n) ⌝ }
+pub fn shaped(
+    n: usize,
+    h: &[i64],
+    e: &[i64],
+    u: &[i64],
+    v: &[i64],
+    q: &[i64],
+    f: &[i64],
+    damping: &[i64],
+) -> bool
+    ensures { λ r. ⌜ r ≡ rule.cellsAllowed n && same (map length (now (h .entry) ∷ now (e .entry) ∷ now (u .entry) ∷ now (v .entry) ∷ now (q .entry) ∷ now (f .entry) ∷ now (damping .entry) ∷ [])) (lengths n) ⌝ }
 {
     if !cells_allowed(n) {
         return false;
@@ -123,6 +132,7 @@ pub fn shaped(n: usize, h: &[i64], e: &[i64], u: &[i64], v: &[i64], q: &[i64], f
         & (v.len() == n)
         & (q.len() == 3 * (n - 1))
         & (f.len() == 3 * n)
+        & (damping.len() == n)
 }
 
 // 1: a poured row has n entries.
@@ -154,19 +164,21 @@ pub fn check(
     v: &[i64],
     q: &[i64],
     f: &[i64],
+    damping: &[i64],
     poured: bool,
     s: &[i64],
 ) -> rule::Fault
-    ensures { λ r. ⌜ r ≡ faultOf (checks.checked (counted c (now (h .entry)) (now (e .entry)) (now (u .entry)) (now (v .entry)) (now (q .entry)) (now (f .entry))) (pouredRows poured (now (s .entry)))) ⌝ }
+    ensures { λ r. ⌜ r ≡ faultOf (checks.checked (counted c (now (h .entry)) (now (e .entry)) (now (u .entry)) (now (v .entry)) (now (q .entry)) (now (f .entry)) (now (damping .entry))) (pouredRows poured (now (s .entry)))) ⌝ }
 {
-    let shape = shaped(c.n, h, e, u, v, q, f) & poured_shaped(c.n, poured, s);
+    let shape = shaped(c.n, h, e, u, v, q, f, damping) & poured_shaped(c.n, poured, s);
     let allowed = counts_allowed(c.x, c.t, c.wanted, c.accepted);
     let number = first(shape, allowed);
     if number != 0 {
         return rule::Fault { number, place: 0 };
     }
     let amounts = values::poured(poured, s);
-    let levels = values::levels_or(c.n, q, f, amounts);
+    let reeds = first_of(values::damping(damping), amounts);
+    let levels = values::levels_or(c.n, q, f, reeds);
     let speeds = values::speeds_or(u, v, levels);
     let fault = values::bed_or(h, e, speeds);
     if fault.number != 0 {
@@ -176,27 +188,23 @@ pub fn check(
 }
 
 // 1: N, and the lengths of the rows that make takes.
-fn make_shaped(n: usize, h: &[i64], e: &[i64], u: &[i64]) -> bool
-    ensures { λ r. ⌜ r ≡ rule.cellsAllowed n && checks.long n (now (h .entry) ∷ now (e .entry) ∷ now (u .entry) ∷ []) ⌝ }
+fn make_shaped(n: usize, h: &[i64], e: &[i64], u: &[i64], damping: &[i64]) -> bool
+    ensures { λ r. ⌜ r ≡ rule.cellsAllowed n && checks.long n (now (h .entry) ∷ now (e .entry) ∷ now (u .entry) ∷ now (damping .entry) ∷ []) ⌝ }
 {
-    cells_allowed(n) & ((h.len() == n) & (e.len() == n) & (u.len() == n))
+    cells_allowed(n) & ((h.len() == n) & (e.len() == n) & (u.len() == n) & (damping.len() == n))
 }
 
 // The checks of make's input, whose count of accepted steps is not looked at: the first that fails, with its lowest place.
-pub fn check_made(c: rule::Counts, h: &[i64], e: &[i64], u: &[i64]) -> rule::Fault
-    ensures { λ r. ⌜ r ≡ faultOf (makeChecked (c .n) (c .x) (c .t) (c .wanted) (now (h .entry)) (now (e .entry)) (now (u .entry))) ⌝ }
+pub fn check_made(c: rule::Counts, h: &[i64], e: &[i64], u: &[i64], damping: &[i64]) -> rule::Fault
+    ensures { λ r. ⌜ r ≡ faultOf (makeChecked (c .n) (c .x) (c .t) (c .wanted) (now (h .entry)) (now (e .entry)) (now (u .entry)) (now (damping .entry))) ⌝ }
 {
-    let shape = make_shaped(c.n, h, e, u);
+    let shape = make_shaped(c.n, h, e, u, damping);
     let allowed = counts_allowed(c.x, c.t, c.wanted, 0);
     let number = first(shape, allowed);
     if number != 0 {
         return rule::Fault { number, place: 0 };
     }
-    let none = rule::Fault {
-        number: 0,
-        place: 0,
-    };
-    let fault = values::bed_or(h, e, values::velocities_or(u, none));
+    let fault = values::bed_or(h, e, values::velocities_or(u, values::damping(damping)));
     if fault.number != 0 {
         return fault;
     }

@@ -5,14 +5,14 @@ use mathlib.Core.Path.{_≡_, ap}
 use mathlib.Core.Bool.{Bool, true, false, cond}
 use mathlib.Core.List.{List}
 use lib.ListN.{length}
-use lib.IntN.{ℤ, pos, negℤ, _+ℤ_, _*ℤ_}
+use lib.IntN.{ℤ, pos, negℤ, _+ℤ_, _-ℤ_, _*ℤ_}
 use Rattle.whole.specs.Row.{tab, tab-at, tab-ext, padded, padded-at}
 use Rattle.rule.specs.Rounded.{rounded}
 use Rattle.rule.specs.Rows.{Row, cell, weighed}
 use Rattle.rule.specs.Channel.{bottom, water, product}
 use Rattle.rule.specs.Mirror.{beyond, mirror, even, odd}
 use Rattle.rule.specs.Flux.{plainWeights, plainPart, secondWeights, second, M, Ms}
-use Rattle.rule.specs.Acceleration.{slopeWeights, D, acceleration, accelerations}
+use Rattle.rule.specs.Acceleration.{slopeWeights, D, undamped, acceleration, accelerations}
 use Rattle.rows.specs.Mirrored.{seen, mirror-lt}
 use Rattle.rows.specs.Weighed.{weighed-same}
 
@@ -63,10 +63,12 @@ module _ (n : ℕ) (least : 4 ≤ n) where
   Ms-agree X H H′ u u′ B B′ p q r =
       tab-ext n _ _ (λ j l t. M (p j l t) (1000 * X) (second-agree u u′ q j l t) (second-agree B B′ r j l t))
 
-  pub accelerations-agree : (X : ℕ) (e e′ u u′ : Row) → Agree n e e′ → Agree n u u′ → accelerations n X e u ≡ accelerations n X e′ u′
-  unfolding accelerations acceleration
-  accelerations-agree X e e′ u u′ p q =
-      tab-ext n _ _ (λ j l t. negℤ (rounded (pos 9_810_000 *ℤ slope-agree e e′ p false j l t +ℤ q j l t *ℤ slope-agree u u′ q true j l t) (12 * (1000 * X))))
+  pub accelerations-agree : (X : ℕ) (e e′ u u′ damping : Row) → Agree n e e′ → Agree n u u′ → accelerations n X e u damping ≡ accelerations n X e′ u′ damping
+  unfolding accelerations acceleration undamped
+  accelerations-agree X e e′ u u′ damping p q =
+      tab-ext n _ _ (λ j l t.
+      negℤ (rounded (pos 9_810_000 *ℤ slope-agree e e′ p false j l t +ℤ q j l t *ℤ slope-agree u u′ q true j l t) (12 * (1000 * X)))
+      -ℤ rounded (cell damping j *ℤ q j l t) 1000)
 
 -- M of each cell, from the row h
 pub Ms-bottom : (n X : ℕ) (h u B : Row) → Ms n X (bottom n h) u B ≡ tab n (λ j. M (pos 1000 *ℤ cell h j) (1000 * X) (second n u j) (second n B j))

@@ -9,16 +9,16 @@ use lib.Dec.{lit≤}
 use lib.ListN.{length, getD-replicate}
 use lib.IntN.{ℤ, pos, natAbs, _+ℤ_, _*ℤ_}
 use Rattle.whole.specs.Abs.{abs-neg}
-use Rattle.whole.specs.Expr.{var, lit, add, mul, abs≤}
+use Rattle.whole.specs.Expr.{var, lit, add, sub, mul, abs≤}
 use Rattle.whole.specs.Row.{tab, length-tab, tab-at, tab-ext, zeros, length-zeros, padded, padded-at, length-padded, Within, within-more}
 use Rattle.rule.specs.Rounded.{rounded}
 use Rattle.rule.specs.Rows.{Row, cell, sizes, weighed}
-use Rattle.rule.specs.Ranges.{mostAcceleration, leastCells, mostCells, leastWidth, mostDepth, mostHeight, mostVelocity}
+use Rattle.rule.specs.Ranges.{mostAcceleration, leastCells, mostCells, leastWidth, mostDepth, mostHeight, mostVelocity, mostDamping}
 use Rattle.rule.specs.Channel.{water, product}
 use Rattle.rule.specs.Mirror.{even, odd}
 use Rattle.rule.specs.Flux.{plainWeights, plainPart, secondWeights, second}
-use Rattle.rule.specs.Acceleration.{slopeWeights, D, acceleration, accelerations}
-use Rattle.round.specs.Quotients.{rounded-most}
+use Rattle.rule.specs.Acceleration.{slopeWeights, D, undamped, acceleration, accelerations}
+use Rattle.round.specs.Quotients.{rounded-most, rounded-less}
 use Rattle.rows.specs.Asked.{Sum}
 use Rattle.rows.specs.Mirrored.{seen, seen-within}
 use Rattle.rows.specs.Weighed.{weighed-within}
@@ -111,17 +111,39 @@ module _ (n X : ℕ) (e u : Row) (heights : Within mostHeight n e) (velocities :
       (add (mul (lit (pos 9_810_000)) (var (D (even n e) j) 360_000_000 (slope-even mostHeight n e heights least j l)))
       (mul (var (cell u j) mostVelocity (velocities .at j l)) (var (D (odd n u) j) 360_000_000 (slope-odd mostVelocity n u velocities least j l))))
 
-  -- F never leaves its range
-  pub acceleration-within : leastWidth ≤ X → (j : ℕ) → j < n → natAbs (acceleration n X e u j) ≤ mostAcceleration
+  -- before damping: whatever the width, so that nothing wraps, and with the least width
+  pub undamped-less : 1 ≤ X → (j : ℕ) → j < n → natAbs (undamped n X e u j) ≤ 10_731_600_000_000_000
+  unfolding undamped
+  undamped-less h j l =
+      rw (abs-neg (rounded (pos 9_810_000 *ℤ D (even n e) j +ℤ cell u j *ℤ D (odd n u) j) (12 * (1000 * X))))
+      (le-trans (rounded-less (pos 9_810_000 *ℤ D (even n e) j +ℤ cell u j *ℤ D (odd n u) j) (12 * (1000 * X)) (omega arith)) (divided-within j l))
+
+  undamped-within : leastWidth ≤ X → (j : ℕ) → j < n → natAbs (undamped n X e u j) ≤ 89_430_000_000
+  unfolding undamped
+  undamped-within h j l =
+      rw (abs-neg (rounded (pos 9_810_000 *ℤ D (even n e) j +ℤ cell u j *ℤ D (odd n u) j) (12 * (1000 * X))))
+      (rounded-most (pos 9_810_000 *ℤ D (even n e) j +ℤ cell u j *ℤ D (odd n u) j) (12 * (1000 * X)) 89_430_000_000 (omega arith) (omega (arith, divided-within j l)))
+
+-- what damping takes away
+pub drag-within : (n : ℕ) (u damping : Row) → Within mostVelocity n u → Within mostDamping n damping → (j : ℕ) → j < n → natAbs (rounded (cell damping j *ℤ cell u j) 1000) ≤ 200_000_000
+drag-within n u damping velocities dampings j l =
+    rounded-most (cell damping j *ℤ cell u j) 1000 200_000_000 (lit≤ tt)
+    (le-trans (abs≤ (mul (var (cell damping j) mostDamping (dampings .at j l)) (var (cell u j) mostVelocity (velocities .at j l)))) (lit≤ tt))
+
+module _ (n X : ℕ) (e u damping : Row) (heights : Within mostHeight n e) (velocities : Within mostVelocity n u) (dampings : Within mostDamping n damping) (least : 4 ≤ n) where
+  -- F is at most 89,630,000,000, and never leaves its range
+  pub acceleration-within : leastWidth ≤ X → (j : ℕ) → j < n → natAbs (acceleration n X e u damping j) ≤ 89_630_000_000
   unfolding acceleration
   acceleration-within h j l =
-      rw (abs-neg (rounded (pos 9_810_000 *ℤ D (even n e) j +ℤ cell u j *ℤ D (odd n u) j) (12 * (1000 * X))))
-      (rounded-most (pos 9_810_000 *ℤ D (even n e) j +ℤ cell u j *ℤ D (odd n u) j) (12 * (1000 * X)) mostAcceleration (omega arith) (omega (arith, divided-within j l)))
+      abs≤
+      (sub (var (undamped n X e u j) 89_430_000_000 (undamped-within n X e u heights velocities least h j l))
+      (var (rounded (cell damping j *ℤ cell u j) 1000) 200_000_000 (drag-within n u damping velocities dampings j l)))
 
-  pub accelerations-within : leastWidth ≤ X → Within mostAcceleration n (accelerations n X e u)
+  pub accelerations-within : leastWidth ≤ X → Within mostAcceleration n (accelerations n X e u damping)
   unfolding accelerations
-  accelerations-within h = record { at = λ j l. rw (tab-at n (acceleration n X e u) j (pos 0) l) (acceleration-within h j l) }
+  accelerations-within h =
+      record { at = λ j l. rw (tab-at n (acceleration n X e u damping) j (pos 0) l) (le-trans (acceleration-within h j l) (lit≤ tt)) }
 
-pub length-accelerations : (n X : ℕ) (e u : Row) → length (accelerations n X e u) ≡ n
+pub length-accelerations : (n X : ℕ) (e u damping : Row) → length (accelerations n X e u damping) ≡ n
 unfolding accelerations
-length-accelerations n X e u = length-tab n (acceleration n X e u)
+length-accelerations n X e u damping = length-tab n (acceleration n X e u damping)

@@ -21,10 +21,11 @@ fn ready(
     v: &[i64],
     q: &[i64],
     f: &[i64],
+    damping: &[i64],
 ) -> rule::Fault
-    ensures { λ r. ⌜ r ≡ faultOf (checks.ready (counted c (now (h .entry)) (now (e .entry)) (now (u .entry)) (now (v .entry)) (now (q .entry)) (now (f .entry))) []) ⌝ }
+    ensures { λ r. ⌜ r ≡ faultOf (checks.ready (counted c (now (h .entry)) (now (e .entry)) (now (u .entry)) (now (v .entry)) (now (q .entry)) (now (f .entry)) (now (damping .entry))) []) ⌝ }
 {
-    let fault = checks::check(c, h, e, u, v, q, f, false, h);
+    let fault = checks::check(c, h, e, u, v, q, f, damping, false, h);
     if fault.number != 0 {
         return fault;
     }
@@ -41,13 +42,13 @@ fn ready(
 }
 
 // The smoothed rows, the checks of a stage, and what is worked out from them.
-fn smoothed(n: usize, x: u64, h: &[i64], e: &[i64], v: &[i64]) -> stage::Trial
-    requires { ⌜ Smoothing n x (now h) (now e) (now v) ⌝ }
-    ensures { λ r. ⌜ r ≡ trialOf n (tried (moving n x 0 (now (h .entry)) [] []) (rule.smoothed n (now (e .entry))) (rule.smoothedReduced n (now (v .entry)))) ⌝ }
+fn smoothed(n: usize, x: u64, h: &[i64], e: &[i64], v: &[i64], damping: &[i64]) -> stage::Trial
+    requires { ⌜ Smoothing n x (now h) (now e) (now v) (now damping) ⌝ }
+    ensures { λ r. ⌜ r ≡ trialOf n (tried (moving n x 0 (now (h .entry)) [] [] (now (damping .entry))) (rule.smoothed n (now (e .entry))) (rule.smoothedReduced n (now (v .entry)))) ⌝ }
 {
     let heights = smoothing::smoothed(n, e);
     let reduced = smoothing::smoothed_reduced(n, v);
-    stage::tried(n, x, h, heights, reduced)
+    stage::tried(n, x, h, heights, reduced, damping)
 }
 
 // All is worked out before anything is stored. A refused call leaves the lent rows as they were.
@@ -59,14 +60,15 @@ pub fn filter(
     v: &mut [i64],
     q: &mut [i64],
     f: &mut [i64],
+    damping: &[i64],
 ) -> rule::Answer
-    ensures { λ r. ⌜ leaves r (counted c (now (h .entry)) (now (e .exit)) (now (u .exit)) (now (v .exit)) (now (q .exit)) (now (f .exit))) ≡ filterCall (counted c (now (h .entry)) (now (e .entry)) (now (u .entry)) (now (v .entry)) (now (q .entry)) (now (f .entry))) ⌝ }
+    ensures { λ r. ⌜ leaves r (counted c (now (h .entry)) (now (e .exit)) (now (u .exit)) (now (v .exit)) (now (q .exit)) (now (f .exit)) (now (damping .entry))) ≡ filterCall (counted c (now (h .entry)) (now (e .entry)) (now (u .entry)) (now (v .entry)) (now (q .entry)) (now (f .entry)) (now (damping .entry))) ⌝ }
 {
-    let fault = ready(c, h, e, u, v, q, f);
+    let fault = ready(c, h, e, u, v, q, f, damping);
     if fault.number != 0 {
         return answers::refused(fault, 0);
     }
-    let trial = smoothed(c.n, c.x, h, e, v);
+    let trial = smoothed(c.n, c.x, h, e, v, damping);
     let met = trial.fault;
     if met.number != 0 {
         return answers::refused(met, 0);

@@ -26,11 +26,11 @@ pub record Coincide {A : Type 0} (r r′ : Answer) (s s′ : A) : Type 0 where
 coincide : {A : Type 0} (r r′ : Answer) (s s′ : A) → _≡_ {A = Called A} (record { answer = r; left = s }) (record { answer = r′; left = s′ }) → Coincide r r′ s s′
 coincide {A} r r′ s s′ same = record { answer = ap (λ (k : Called A). k .answer) same; left = ap (λ (k : Called A). k .left) same }
 
-module _ (κs : Lfts 7) where
-  pub one-outcome-place : (a : Dens κs place-kinds.ps) (r r′ : resT place-kinds.r κs .Denot) (x x′ : AtExit (endedOf 7 place-kinds.ps place-kinds.r) κs) → place-reads.Post κs a r x → place-reads.Post κs a r′ x′ → Coincide r r′ (now (x .1 .1 .1 .1 .1 .1 .1 .1 .0)) (now (x′ .1 .1 .1 .1 .1 .1 .1 .1 .0))
+module _ (κs : Lfts 8) where
+  pub one-outcome-place : (a : Dens κs place-kinds.ps) (r r′ : resT place-kinds.r κs .Denot) (x x′ : AtExit (endedOf 8 place-kinds.ps place-kinds.r) κs) → place-reads.Post κs a r x → place-reads.Post κs a r′ x′ → Coincide r r′ (now (x .1 .1 .1 .1 .1 .1 .1 .1 .1 .0)) (now (x′ .1 .1 .1 .1 .1 .1 .1 .1 .1 .0))
   one-outcome-place a r r′ x x′ p p′ = coincide r r′ _ _ (p ∙ sym p′)
 
-  pub one-outcome-feed : (a : Dens κs feed-kinds.ps) (r r′ : resT feed-kinds.r κs .Denot) (x x′ : AtExit (endedOf 7 feed-kinds.ps feed-kinds.r) κs) → feed-reads.Post κs a r x → feed-reads.Post κs a r′ x′ → Coincide r r′ (now (x .1 .1 .1 .1 .1 .1 .1 .0)) (now (x′ .1 .1 .1 .1 .1 .1 .1 .0))
+  pub one-outcome-feed : (a : Dens κs feed-kinds.ps) (r r′ : resT feed-kinds.r κs .Denot) (x x′ : AtExit (endedOf 8 feed-kinds.ps feed-kinds.r) κs) → feed-reads.Post κs a r x → feed-reads.Post κs a r′ x′ → Coincide r r′ (now (x .1 .1 .1 .1 .1 .1 .1 .1 .0)) (now (x′ .1 .1 .1 .1 .1 .1 .1 .1 .0))
   one-outcome-feed a r r′ x x′ p p′ = coincide r r′ _ _ (p ∙ sym p′)
 
 module _ (κs : Lfts 2) where

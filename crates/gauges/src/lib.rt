@@ -17,12 +17,13 @@ pub fn place(
     v: &[i64],
     q: &[i64],
     f: &[i64],
+    damping: &[i64],
     cell: u64,
     gauges: &mut [u8],
 ) -> rule::Answer
-    ensures { λ r. ⌜ leavesBytes r (now (gauges .exit)) ≡ placeCall (counted c (now (h .entry)) (now (e .entry)) (now (u .entry)) (now (v .entry)) (now (q .entry)) (now (f .entry))) cell (now (gauges .entry)) ⌝ }
+    ensures { λ r. ⌜ leavesBytes r (now (gauges .exit)) ≡ placeCall (counted c (now (h .entry)) (now (e .entry)) (now (u .entry)) (now (v .entry)) (now (q .entry)) (now (f .entry)) (now (damping .entry))) cell (now (gauges .entry)) ⌝ }
 {
-    let fault = checks::check(c, h, e, u, v, q, f, false, e);
+    let fault = checks::check(c, h, e, u, v, q, f, damping, false, e);
     if fault.number != 0 {
         return answers::refused(fault, 0);
     }
@@ -38,11 +39,12 @@ pub fn feed(
     v: &[i64],
     q: &[i64],
     f: &[i64],
+    damping: &[i64],
     gauges: &mut [u8],
 ) -> rule::Answer
-    ensures { λ r. ⌜ leavesBytes r (now (gauges .exit)) ≡ feedCall (counted c (now (h .entry)) (now (e .entry)) (now (u .entry)) (now (v .entry)) (now (q .entry)) (now (f .entry))) (now (gauges .entry)) ⌝ }
+    ensures { λ r. ⌜ leavesBytes r (now (gauges .exit)) ≡ feedCall (counted c (now (h .entry)) (now (e .entry)) (now (u .entry)) (now (v .entry)) (now (q .entry)) (now (f .entry)) (now (damping .entry))) (now (gauges .entry)) ⌝ }
 {
-    let fault = checks::check(c, h, e, u, v, q, f, false, e);
+    let fault = checks::check(c, h, e, u, v, q, f, damping, false, e);
     if fault.number != 0 {
         return answers::refused(fault, 0);
     }

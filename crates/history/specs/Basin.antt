@@ -1,4 +1,4 @@
--- No call changes the basin: the cells, X, T, the count that is wanted and the depths; making a channel leaves its heights and
+-- No call changes the basin: the cells, X, T, the count that is wanted, the depths and the damping; making a channel leaves its heights and
 -- velocities too. Assumes nothing.
 use mathlib.Core.Path.{_≡_, refl, sym, _∙_, ap}
 use mathlib.Core.List.{List, [], _∷_}
@@ -60,13 +60,13 @@ is-like c d calls e = ap (like c) e ∙ after-like c calls ∙ sym e
 abbrev pub made-like : Channel → Channel → Channel
 made-like c d = moved c (d .accepted) (c .e) (c .u) (d .v) (d .Q) (d .F)
 
-made-of : (c d : Channel) → make (c .N) (c .X) (c .T) (c .wanted) (c .h) (c .e) (c .u) ≡ done d → made-like c d ≡ d
+made-of : (c d : Channel) → make (c .N) (c .X) (c .T) (c .wanted) (c .h) (c .e) (c .u) (c .damping) ≡ done d → made-like c d ≡ d
 unfolding make
 made-of c d m =
-    let k = came (makeChecked (c .N) (c .X) (c .T) (c .wanted) (c .h) (c .e) (c .u)) _ d m in
+    let k = came (makeChecked (c .N) (c .X) (c .T) (c .wanted) (c .h) (c .e) (c .u) (c .damping)) _ d m in
     let v = came (reducedVelocities (c .N) (c .X) (c .h) (c .u)) _ d (k .rest) in
     let Q = came _ _ d (v .rest) in
-    let is : moved c 0 (c .e) (c .u) (v .mid) (filled (Q .mid)) (filled (accelerations (c .N) (c .X) (c .e) (c .u))) ≡ d = cc (Q .rest) in
+    let is : moved c 0 (c .e) (c .u) (v .mid) (filled (Q .mid)) (filled (accelerations (c .N) (c .X) (c .e) (c .u) (c .damping))) ≡ d = cc (Q .rest) in
     ap (made-like c) (sym is) ∙ is
 
 by-make : (c : Channel) (m : Outcome Channel) → ((d : Channel) → m ≡ done d → made-like c d ≡ d) → let d = plainly c m .left in made-like c d ≡ d

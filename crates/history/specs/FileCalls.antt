@@ -45,7 +45,7 @@ abbrev pub Check : Type 0
 Check = Outcome 1 check-kinds.ps check-kinds.r check-reads.Post
 
 abbrev pub Make : Type 0
-Make = Outcome 4 make-kinds.ps make-kinds.r make-reads.Post
+Make = Outcome 5 make-kinds.ps make-kinds.r make-reads.Post
 
 abbrev pub CStep : Type 0
 CStep = Outcome 2 c-step-kinds.ps c-step-kinds.r c-step-reads.Post
@@ -60,7 +60,7 @@ abbrev pub CCheck : Type 0
 CCheck = Outcome 1 c-check-kinds.ps c-check-kinds.r c-check-reads.Post
 
 abbrev pub CMake : Type 0
-CMake = Outcome 4 c-make-kinds.ps c-make-kinds.r c-make-reads.Post
+CMake = Outcome 5 c-make-kinds.ps c-make-kinds.r c-make-reads.Post
 
 -- What a call is lent and what it leaves, whatever it answers: C's call has the parameters of the one behind it.
 -- Of a step, the bytes of the file at entry and at exit, and of the poured row
@@ -106,6 +106,6 @@ module _ (o : CRun) where
 abbrev pub check-bytes : {R : RK 1} {Post : Out 1 check-kinds.ps R} → Outcome 1 check-kinds.ps R Post → List ℕ
 check-bytes o = now (o .a .0)
 
--- the buffer that is filled is the last of eight
-abbrev pub make-exit : {R : RK 4} {Post : Out 4 make-kinds.ps R} → Outcome 4 make-kinds.ps R Post → List ℕ
-make-exit o = now (o .x .1 .1 .1 .1 .1 .1 .1 .0)
+-- the buffer that is filled is the last of nine
+abbrev pub make-exit : {R : RK 5} {Post : Out 5 make-kinds.ps R} → Outcome 5 make-kinds.ps R Post → List ℕ
+make-exit o = now (o .x .1 .1 .1 .1 .1 .1 .1 .1 .0)

@@ -95,10 +95,10 @@ of-made : {a : Answer} {s : List ℕ} {k : Called (List ℕ)} → leavesBytes a 
 of-made e h z = subst (λ (k : Called (List ℕ)). k .answer .number ≡ 0 → numberOf (read (k .left)) ≡ 0) (sym e) h z
 
 pub file-start-taken : {s : List ℕ} → FileStart s → numberOf (read s) ≡ 0
-file-start-taken (made o z) = of-made (o .permitted) (make-file-taken _ _ _ _ _ _ _ _) z
+file-start-taken (made o z) = of-made (o .permitted) (make-file-taken _ _ _ _ _ _ _ _ _) z
 file-start-taken (checked o z) = check-taken (check-bytes o) (ap (λ r. r .number) (sym (o .permitted .0)) ∙ z)
 file-start-taken (c-made o z) =
-    of-made (both (makeFile _ _ _ _ _ _ _ _) (make-unpacked _ _ _ _ _ _ _ _ (o .permitted .0)) (o .permitted .1)) (make-file-taken _ _ _ _ _ _ _ _) z
+    of-made (both (makeFile _ _ _ _ _ _ _ _ _) (make-unpacked _ _ _ _ _ _ _ _ _ (o .permitted .0)) (o .permitted .1)) (make-file-taken _ _ _ _ _ _ _ _ _) z
 file-start-taken (c-checked o z) =
     let s = check-bytes o in
     check-taken s (ap (λ r. r .number) (sym (check-unpacked s (o .permitted .0))) ∙ z)

@@ -41,17 +41,17 @@ unfolding called
 of-make buffer (refused r k) z = absurd (number-not-0 r z)
 of-make buffer (done c) z = bytes-file c
 
-make-bytes : (n X T wanted : ℕ) (h e u buffer : List ℕ) → let k = makeFile n X T wanted h e u buffer in k .answer .number ≡ 0 → AreBytes (k .left)
+make-bytes : (n X T wanted : ℕ) (h e u damping buffer : List ℕ) → let k = makeFile n X T wanted h e u damping buffer in k .answer .number ≡ 0 → AreBytes (k .left)
 unfolding makeFile
-make-bytes n X T wanted h e u buffer = of-make buffer _
+make-bytes n X T wanted h e u damping buffer = of-make buffer _
 
 of-made : {a : Answer} {s : List ℕ} {k : Called (List ℕ)} → leavesBytes a s ≡ k → (k .answer .number ≡ 0 → AreBytes (k .left)) → a .number ≡ 0 → AreBytes s
 of-made e h z = subst (λ (k : Called (List ℕ)). k .answer .number ≡ 0 → AreBytes (k .left)) (sym e) h z
 
 start-bytes : {s : List ℕ} → FileStart s → AreBytes s
-start-bytes (made o z) = of-made (o .permitted) (make-bytes _ _ _ _ _ _ _ _) z
+start-bytes (made o z) = of-made (o .permitted) (make-bytes _ _ _ _ _ _ _ _ _) z
 start-bytes (checked o z) = o .permitted .1
-start-bytes (c-made o z) = of-made (both (makeFile _ _ _ _ _ _ _ _) (make-unpacked _ _ _ _ _ _ _ _ (o .permitted .0)) (o .permitted .1)) (make-bytes _ _ _ _ _ _ _ _) z
+start-bytes (c-made o z) = of-made (both (makeFile _ _ _ _ _ _ _ _ _) (make-unpacked _ _ _ _ _ _ _ _ _ (o .permitted .0)) (o .permitted .1)) (make-bytes _ _ _ _ _ _ _ _ _) z
 start-bytes (c-checked o z) = o .permitted .1
 
 history-bytes : {s t : List ℕ} → FileStart s → FileHistory s t → AreBytes t

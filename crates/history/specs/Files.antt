@@ -143,15 +143,15 @@ unfolding called
 of-made buffer (refused r k) h z = absurd (number-not-0 r z)
 of-made buffer (done c) h z = number-of-done (read (fileOf c)) c (read-file c (h c refl))
 
-pub make-file-taken : (n X T wanted : ℕ) (h e u buffer : List ℕ) → let k = makeFile n X T wanted h e u buffer in k .answer .number ≡ 0 → numberOf (read (k .left)) ≡ 0
+pub make-file-taken : (n X T wanted : ℕ) (h e u damping buffer : List ℕ) → let k = makeFile n X T wanted h e u damping buffer in k .answer .number ≡ 0 → numberOf (read (k .left)) ≡ 0
 unfolding makeFile
-make-file-taken n X T wanted h e u buffer =
+make-file-taken n X T wanted h e u damping buffer =
     of-made buffer _
     (λ c m.
-    let a₁ = came-by (holds h n && holds e n && holds u n) shape _ c m in
-    let a₂ = came (makeChecked n X T wanted (rowIn h) (rowIn e) (rowIn u)) _ c (a₁ .1) in
+    let a₁ = came-by (holds h n && holds e n && holds u n && holds damping n) shape _ c m in
+    let a₂ = came (makeChecked n X T wanted (rowIn h) (rowIn e) (rowIn u) (rowIn damping)) _ c (a₁ .1) in
     let a₃ = came-by (eqb (length buffer) (lengthOf edition n)) bufferLength _ c (a₂ .rest) in
-    make-passes n X T wanted (rowIn h) (rowIn e) (rowIn u) c (a₃ .1))
+    make-passes n X T wanted (rowIn h) (rowIn e) (rowIn u) (rowIn damping) c (a₃ .1))
 
 of-checked : (s : List ℕ) (m : Outcome Channel) → called s (λ _. 0) (λ _. s) m .answer .number ≡ 0 → numberOf m ≡ 0
 unfolding called numberOf

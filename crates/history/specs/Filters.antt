@@ -7,7 +7,7 @@ use Rattle.history.specs.Outcomes.{Outcome}
 use Rattle.history.specs.Lent.{lent, left}
 
 abbrev pub Filter : Type 0
-Filter = Outcome 6 kinds.ps kinds.r Post
+Filter = Outcome 7 kinds.ps kinds.r Post
 
 abbrev pub entry : Filter → Channel
 entry o = lent (o .a .0) (o .a .1)

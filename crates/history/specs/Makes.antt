@@ -8,7 +8,7 @@ use Rattle.history.specs.Outcomes.{Outcome}
 use Rattle.history.specs.Lent.{lent, made}
 
 abbrev pub Make : Type 0
-Make = Outcome 6 kinds.ps kinds.r Post
+Make = Outcome 7 kinds.ps kinds.r Post
 
 abbrev pub entry : Make → Channel
 entry o = lent (o .a .0) (o .a .1)

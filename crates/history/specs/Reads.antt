@@ -10,7 +10,7 @@ use Rattle.history.specs.Outcomes.{Outcome}
 use Rattle.history.specs.Lent.{lent}
 
 abbrev pub Read : Type 0
-Read = Outcome 7 kinds.ps kinds.r Post
+Read = Outcome 8 kinds.ps kinds.r Post
 
 -- the channel that is lent, after the bytes, and the one that is left
 abbrev pub entry : Read → Channel

@@ -11,10 +11,10 @@ use Rattle.history.specs.Outcomes.{Outcome}
 use Rattle.history.specs.Lent.{lent, left}
 
 abbrev pub Run : Type 0
-Run = Outcome 6 run-kinds.ps run-kinds.r run-reads.Post
+Run = Outcome 7 run-kinds.ps run-kinds.r run-reads.Post
 
 abbrev pub RunFor : Type 0
-RunFor = Outcome 6 run-for-kinds.ps run-for-kinds.r run-for-reads.Post
+RunFor = Outcome 7 run-for-kinds.ps run-for-kinds.r run-for-reads.Post
 
 abbrev pub entry : Run → Channel
 entry o = lent (o .a .0) (o .a .1)

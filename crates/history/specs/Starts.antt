@@ -29,7 +29,7 @@ Passes d = numberOf (checked d []) ≡ 0
 make-call-passes : (c : Channel) → makeCall c .answer .number ≡ 0 → numberOf (checked (makeCall c .left) []) ≡ 0
 unfolding makeCall
 make-call-passes c =
-    left-of Passes c _ (λ d e. make-passes (c .N) (c .X) (c .T) (c .wanted) (c .h) (c .e) (c .u) d (came-by (fit c (c .N)) shape _ d e .1))
+    left-of Passes c _ (λ d e. make-passes (c .N) (c .X) (c .T) (c .wanted) (c .h) (c .e) (c .u) (c .damping) d (came-by (fit c (c .N)) shape _ d e .1))
 
 read-call-passes : (c : Channel) (s : List ℕ) → readCall c s .answer .number ≡ 0 → numberOf (checked (readCall c s .left) []) ≡ 0
 unfolding readCall

@@ -10,7 +10,7 @@ use Rattle.history.specs.Outcomes.{Outcome}
 use Rattle.history.specs.Lent.{lent, left}
 
 abbrev pub Step : Type 0
-Step = Outcome 7 kinds.ps kinds.r Post
+Step = Outcome 8 kinds.ps kinds.r Post
 
 -- the channel at entry, and at exit
 abbrev pub entry : Step → Channel
@@ -21,7 +21,7 @@ exit o = left (after (o .a .0) (o .r .accepted)) (o .a .1) (o .x .1)
 
 -- the poured row, after the channel's
 abbrev pub row : Step → Row
-row o = now (o .a .1 .1 .1 .1 .1 .1 .1 .0)
+row o = now (o .a .1 .1 .1 .1 .1 .1 .1 .1 .0)
 
 abbrev pub answer : Step → Answer
 answer o = o .r .answer

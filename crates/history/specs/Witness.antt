@@ -34,7 +34,7 @@ ref v = record { ptr = (0, 0); name = 0; now = v }
 
 -- the rows of a channel, lent
 abbrev rows : {Rest : Type 0} → Channel → Rest → Rows Rest
-rows c rest = (ref (c .h), (ref (c .e), (ref (c .u), (ref (c .v), (ref (c .Q), (ref (c .F), rest))))))
+rows c rest = (ref (c .h), (ref (c .e), (ref (c .u), (ref (c .v), (ref (c .Q), (ref (c .F), (ref (c .damping), rest)))))))
 
 -- what runs leave
 run-like : (c : Channel) → like c (runCall c .left) ≡ runCall c .left
@@ -56,7 +56,7 @@ step-linked c s =
       link =
           links.step
           (record {
-            κs = forever 7;
+            κs = forever 8;
             a = (countsOf c, rows c (ref s, tt));
             r = leftOf k;
             x = (countsOf c, rows (like c (k .left)) (ref s, tt));
@@ -73,7 +73,7 @@ filter-linked c =
       link =
           links.filter
           (record {
-            κs = forever 6;
+            κs = forever 7;
             a = (countsOf c, rows c tt);
             r = k .answer;
             x = (countsOf c, rows (like c (k .left)) tt);
@@ -90,7 +90,7 @@ run-linked c =
       link =
           links.run
           (record {
-            κs = forever 6;
+            κs = forever 7;
             a = (countsOf c, rows c tt);
             r = leftOf k;
             x = (countsOf c, rows (like c (k .left)) tt);
@@ -107,7 +107,7 @@ run-for-linked most c =
       link =
           links.run-for
           (record {
-            κs = forever 6;
+            κs = forever 7;
             a = (most, (countsOf c, rows c tt));
             r = leftOf k;
             x = (most, (countsOf c, rows (like c (k .left)) tt));
@@ -199,7 +199,7 @@ make-start c z =
     let k = makeCall c in
     let o : makes.Make =
     record {
-      κs = forever 6;
+      κs = forever 7;
       a = (countsOf c, rows c tt);
       r = leftOf k;
       x = (countsOf c, rows (made-like c (k .left)) tt);
@@ -210,4 +210,4 @@ make-start c z =
 pub read-start : (c : Channel) (s : List ℕ) → AreBytes s → readCall c s .answer .number ≡ 0 → Start (readCall c s .left)
 read-start c s b z =
     let k = readCall c s in
-    links.read (record { κs = forever 7; a = (ref s, (countsOf c, rows c tt)); r = readOf k; x = (ref s, (countsOf c, rows (k .left) tt)); permitted = (refl, b) }) z
+    links.read (record { κs = forever 8; a = (ref s, (countsOf c, rows c tt)); r = readOf k; x = (ref s, (countsOf c, rows (k .left) tt)); permitted = (refl, b) }) z

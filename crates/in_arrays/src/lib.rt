@@ -17,14 +17,15 @@ fn walk_rows(
     v: &mut [i64],
     q: &mut [i64],
     f: &mut [i64],
+    damping: &mut [i64],
     s: &[i64],
 ) -> rule::Answer
-    requires { ⌜ Opens (now file) (now h) (now e) (now u) (now v) (now q) (now f) × Passing (now file) ⌝ }
+    requires { ⌜ Opens (now file) (now h) (now e) (now u) (now v) (now q) (now f) (now damping) × Passing (now file) ⌝ }
     ensures { λ r. ⌜ leavesBytes r (now (file .exit)) ≡ filed (callOf call (now (s .entry)) (channelOf (now (file .entry)))) ⌝ }
 {
-    let c = opened::opened(file, h, e, u, v, q, f);
-    let r = call::called(call, c, h, e, u, v, q, f, s);
-    put::put(file, c.after(r.accepted), h, e, u, v, q, f);
+    let c = opened::opened(file, h, e, u, v, q, f, damping);
+    let r = call::called(call, c, h, e, u, v, q, f, damping, s);
+    put::put(file, c.after(r.accepted), h, e, u, v, q, f, damping);
     r.answer
 }
 
@@ -42,6 +43,7 @@ pub fn in_arrays(call: call::Call, n: usize, file: &mut [u8], poured: &[u8]) -> 
     let mut v = [0i64; rule::MOST_CELLS];
     let mut q = [0i64; 3 * rule::MOST_CELLS];
     let mut f = [0i64; 3 * rule::MOST_CELLS];
+    let mut damping = [0i64; rule::MOST_CELLS];
     walk_rows(
         call,
         file,
@@ -51,6 +53,7 @@ pub fn in_arrays(call: call::Call, n: usize, file: &mut [u8], poured: &[u8]) -> 
         &mut v[..n],
         &mut q[..faces],
         &mut f[..cells],
+        &mut damping[..n],
         &s[..n],
     )
 }

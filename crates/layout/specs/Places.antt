@@ -9,7 +9,7 @@ use lib.Seq.{take-all}
 use Rattle.rule.specs.Ranges.{mostCells}
 use Rattle.rule.specs.Channel.{lengths}
 use Rattle.rule.specs.Layout.{widths, headLength, starts, span, offsets, startOf, lengthOf}
-use Rattle.layout.specs.Table.{six, of-each, length-offsets}
+use Rattle.layout.specs.Table.{six, seven, of-each, length-offsets}
 
 -- a row starts where the rows before it end
 start-at :
@@ -62,7 +62,7 @@ head-within edition n = omega arith
 pub length-few : (edition n : ℕ) → n ≤ mostCells → lengthOf edition n ≤ 32_768
 unfolding lengthOf headLength span lengths
 length-few edition n h =
-    of-each (λ c ws. 4 * (c + length ws) + span ws (lengths n) ≤ 32_768) (omega arith) (omega arith) edition
+    of-each (λ c ws. 4 * (c + length ws) + span ws (lengths n) ≤ 32_768) (omega arith) (omega arith) (omega arith) edition
 
 -- the bytes of the rows before row i, in numbers
 module _ (edition n : ℕ) (some : 1 ≤ n) where
@@ -71,27 +71,46 @@ module _ (edition n : ℕ) (some : 1 ≤ n) where
 
   pub before-5 : (i : ℕ) → i ≡ 5 → Before i (40 * n - 24) (widths edition)
   unfolding span lengths
-  before-5 i e = of-each (λ c ws. Before i (40 * n - 24) ws) (λ _. rw e (omega arith)) (λ l. absurd (omega arith)) edition
+  before-5 i e = of-each (λ c ws. Before i (40 * n - 24) ws) (λ _. rw e (omega arith)) (λ _. rw e (omega arith)) (λ l. absurd (omega arith)) edition
 
   pub before-6 : (i : ℕ) → i ≡ 6 → Before i (64 * n - 24) (widths edition)
   unfolding span lengths
-  before-6 i e = of-each (λ c ws. Before i (64 * n - 24) ws) (λ _. rw e (omega arith)) (λ l. absurd (omega arith)) edition
+  before-6 i e = of-each (λ c ws. Before i (64 * n - 24) ws) (λ _. rw e (omega arith)) (λ _. rw e (omega arith)) (λ l. absurd (omega arith)) edition
 
-  cells-before : (i : ℕ) → (i ≡ 5 → ⊥) → (i ≡ 6 → ⊥) → Before i (4 * i * n) six
+  pub before-7 : (i : ℕ) → i ≡ 7 → Before i (68 * n - 24) (widths edition)
   unfolding span lengths
-  cells-before zero p q h = omega arith
-  cells-before (suc zero) p q h = omega arith
-  cells-before (suc (suc zero)) p q h = omega arith
-  cells-before (suc (suc (suc zero))) p q h = omega arith
-  cells-before (suc (suc (suc (suc zero)))) p q h = omega arith
-  cells-before (suc (suc (suc (suc (suc zero))))) p q h = absurd (p refl)
-  cells-before (suc (suc (suc (suc (suc (suc zero)))))) p q h = absurd (q refl)
-  cells-before (suc (suc (suc (suc (suc (suc (suc i))))))) p q h = absurd (omega arith)
+  before-7 i e = of-each (λ c ws. Before i (68 * n - 24) ws) (λ l. absurd (omega arith)) (λ _. rw e (omega arith)) (λ l. absurd (omega arith)) edition
+
+  -- the first four rows are alike in every edition
+  module _ (more : List ℕ) where
+    cells-before : (i : ℕ) → i ≤ 4 → Before i (4 * i * n) (4 ∷ 4 ∷ 4 ∷ 4 ∷ more)
+    unfolding span lengths
+    cells-before zero p h = omega arith
+    cells-before (suc zero) p h = omega arith
+    cells-before (suc (suc zero)) p h = omega arith
+    cells-before (suc (suc (suc zero))) p h = omega arith
+    cells-before (suc (suc (suc (suc zero)))) p h = omega arith
+    cells-before (suc (suc (suc (suc (suc i))))) p h = absurd (omega arith)
+
+  first-four : (i : ℕ) → i ≤ 7 → (i ≡ 5 → ⊥) → (i ≡ 6 → ⊥) → (i ≡ 7 → ⊥) → i ≤ 4
+  first-four zero h p q r = omega arith
+  first-four (suc zero) h p q r = omega arith
+  first-four (suc (suc zero)) h p q r = omega arith
+  first-four (suc (suc (suc zero))) h p q r = omega arith
+  first-four (suc (suc (suc (suc zero)))) h p q r = omega arith
+  first-four (suc (suc (suc (suc (suc zero))))) h p q r = absurd (p refl)
+  first-four (suc (suc (suc (suc (suc (suc zero)))))) h p q r = absurd (q refl)
+  first-four (suc (suc (suc (suc (suc (suc (suc zero))))))) h p q r = absurd (r refl)
+  first-four (suc (suc (suc (suc (suc (suc (suc (suc i)))))))) h p q r = absurd (omega arith)
 
   none-before : (i : ℕ) → Before i (4 * i * n) []
   unfolding span
   none-before zero h = omega arith
   none-before (suc i) h = absurd (omega arith)
 
-  pub before-cells : (i : ℕ) → (i ≡ 5 → ⊥) → (i ≡ 6 → ⊥) → Before i (4 * i * n) (widths edition)
-  before-cells i p q = of-each (λ c ws. Before i (4 * i * n) ws) (cells-before i p q) (none-before i) edition
+  pub before-cells : (i : ℕ) → (i ≡ 5 → ⊥) → (i ≡ 6 → ⊥) → (i ≡ 7 → ⊥) → Before i (4 * i * n) (widths edition)
+  before-cells i p q r =
+      of-each (λ c ws. Before i (4 * i * n) ws)
+      (λ h. cells-before (8 ∷ 8 ∷ []) i (first-four i (omega arith) p q r) h)
+      (λ h. cells-before (8 ∷ 8 ∷ 4 ∷ []) i (first-four i (omega arith) p q r) h)
+      (none-before i) edition

@@ -31,4 +31,4 @@ pub lengths-of-file : (s : List ℕ) → map length (rows (channelOf s)) ≡ len
 unfolding channelOf rows map lengths
 lengths-of-file s =
     let at = length-rowOf edition (countOf s 1) s in
-    (λ i. at 0 i ∷ at 1 i ∷ at 2 i ∷ at 3 i ∷ at 4 i ∷ at 5 i ∷ [])
+    (λ i. at 0 i ∷ at 1 i ∷ at 2 i ∷ at 3 i ∷ at 4 i ∷ at 5 i ∷ at 6 i ∷ [])

@@ -9,37 +9,49 @@ use lib.ListN.{length}
 use Rattle.rule.specs.Channel.{lengths}
 use Rattle.rule.specs.Layout.{countsIn, widths, headLength, starts, offsets}
 
--- edition 1
+-- edition 1, and edition 2
 abbrev pub six : List ℕ
 six = 4 ∷ 4 ∷ 4 ∷ 4 ∷ 8 ∷ 8 ∷ []
 
-each-by : (P : ℕ → List ℕ → Type 0) → P 6 six → P 0 [] → (b : Bool) → P (cond b 6 0) (cond b six [])
-each-by P first none true = first
-each-by P first none false = none
+abbrev pub seven : List ℕ
+seven = 4 ∷ 4 ∷ 4 ∷ 4 ∷ 8 ∷ 8 ∷ 4 ∷ []
 
-pub of-each : (P : ℕ → List ℕ → Type 0) → P 6 six → P 0 [] → (edition : ℕ) → P (countsIn edition) (widths edition)
+each-by : (P : ℕ → List ℕ → Type 0) → P 6 six → P 6 seven → P 0 [] → (a b : Bool) → P (cond a 6 (cond b 6 0)) (cond a six (cond b seven []))
+each-by P first second none true b = first
+each-by P first second none false true = second
+each-by P first second none false false = none
+
+pub of-each : (P : ℕ → List ℕ → Type 0) → P 6 six → P 6 seven → P 0 [] → (edition : ℕ) → P (countsIn edition) (widths edition)
 unfolding countsIn widths
-of-each P first none edition = each-by P first none (eqb edition 1)
+of-each P first second none edition = each-by P first second none (eqb edition 1) (eqb edition 2)
 
 -- how many counts and rows, as the code has them
 pub counts-1 : (edition : ℕ) → edition ≡ 1 → 6 ≡ countsIn edition
 unfolding countsIn
 counts-1 edition e = rw (eq-eqb edition 1 e)
 
-pub counts-none : (edition : ℕ) → (edition ≡ 1 → ⊥) → 0 ≡ countsIn edition
+pub counts-2 : (edition : ℕ) → edition ≡ 2 → 6 ≡ countsIn edition
 unfolding countsIn
-counts-none edition e = rw (ne-eqb edition 1 e)
+counts-2 edition e = rw e
+
+pub counts-none : (edition : ℕ) → (edition ≡ 1 → ⊥) → (edition ≡ 2 → ⊥) → 0 ≡ countsIn edition
+unfolding countsIn
+counts-none edition p q = rw (ne-eqb edition 1 p, ne-eqb edition 2 q)
 
 pub rows-1 : (edition : ℕ) → edition ≡ 1 → 6 ≡ length (widths edition)
 unfolding widths
 rows-1 edition e = rw (eq-eqb edition 1 e)
 
-pub rows-none : (edition : ℕ) → (edition ≡ 1 → ⊥) → 0 ≡ length (widths edition)
+pub rows-2 : (edition : ℕ) → edition ≡ 2 → 7 ≡ length (widths edition)
 unfolding widths
-rows-none edition e = rw (ne-eqb edition 1 e)
+rows-2 edition e = rw e
+
+pub rows-none : (edition : ℕ) → (edition ≡ 1 → ⊥) → (edition ≡ 2 → ⊥) → 0 ≡ length (widths edition)
+unfolding widths
+rows-none edition p q = rw (ne-eqb edition 1 p, ne-eqb edition 2 q)
 
 -- each row has its offset
 pub length-offsets : (edition n : ℕ) → length (offsets edition n) ≡ length (widths edition)
 unfolding offsets headLength starts lengths
 length-offsets edition n =
-    of-each (λ c ws. length (starts (4 * (c + length ws)) ws (lengths n)) ≡ length ws) refl refl edition
+    of-each (λ c ws. length (starts (4 * (c + length ws)) ws (lengths n)) ≡ length ws) refl refl refl edition

@@ -10,7 +10,7 @@ ghost use Rattle.rule.specs.File.{headBytes, offsetsIn};
 ghost use Rattle.little.specs.Written.{written};
 
 // The edition that is read and written.
-pub const EDITION: u64 = 1;
+pub const EDITION: u64 = 2;
 
 // How many bytes a reader has to see of any edition.
 pub const LEAST_LENGTH: usize = 48;
@@ -21,6 +21,7 @@ pub fn counts_in(edition: u64) -> usize
 {
     match edition {
         1 => 6,
+        2 => 6,
         _ => 0,
     }
 }
@@ -31,6 +32,7 @@ pub fn rows_in(edition: u64) -> usize
 {
     match edition {
         1 => 6,
+        2 => 7,
         _ => 0,
     }
 }
@@ -44,6 +46,7 @@ fn place(edition: u64, i: usize, n: usize) -> usize
     match i {
         5 => head + 40 * n - 24,
         6 => head + 64 * n - 24,
+        7 => head + 68 * n - 24,
         _ => head + 4 * i * n,
     }
 }

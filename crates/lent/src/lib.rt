@@ -19,11 +19,12 @@ pub extern "C" fn lent_make(
     v: &mut [i64],
     q: &mut [i64],
     f: &mut [i64],
+    damping: &[i64],
     stage: &mut u64,
     place: &mut u64,
     count: &mut u64,
 ) -> u64
-    ensures { λ r. ⌜ leaves (record { number = r; stage = now (stage .exit); place = now (place .exit); count = now (count .exit) }) (channel n x t (now (accepted .exit)) wanted (now (h .entry)) (now (e .entry)) (now (u .entry)) (now (v .exit)) (now (q .exit)) (now (f .exit))) ≡ makeCall (channel n x t (now (accepted .entry)) wanted (now (h .entry)) (now (e .entry)) (now (u .entry)) (now (v .entry)) (now (q .entry)) (now (f .entry))) ⌝ }
+    ensures { λ r. ⌜ leaves (record { number = r; stage = now (stage .exit); place = now (place .exit); count = now (count .exit) }) (channel n x t (now (accepted .exit)) wanted (now (h .entry)) (now (e .entry)) (now (u .entry)) (now (v .exit)) (now (q .exit)) (now (f .exit)) (now (damping .entry))) ≡ makeCall (channel n x t (now (accepted .entry)) wanted (now (h .entry)) (now (e .entry)) (now (u .entry)) (now (v .entry)) (now (q .entry)) (now (f .entry)) (now (damping .entry))) ⌝ }
 {
     let c = rule::Counts {
         n,
@@ -32,7 +33,7 @@ pub extern "C" fn lent_make(
         accepted: *accepted,
         wanted,
     };
-    let r = make::make(c, h, e, u, v, q, f);
+    let r = make::make(c, h, e, u, v, q, f, damping);
     *accepted = r.accepted;
     *stage = r.answer.stage;
     *place = r.answer.place;
@@ -54,12 +55,13 @@ pub extern "C" fn lent_step(
     v: &mut [i64],
     q: &mut [i64],
     f: &mut [i64],
+    damping: &[i64],
     s: &[i64],
     stage: &mut u64,
     place: &mut u64,
     count: &mut u64,
 ) -> u64
-    ensures { λ r. ⌜ leaves (record { number = r; stage = now (stage .exit); place = now (place .exit); count = now (count .exit) }) (channel n x t (now (accepted .exit)) wanted (now (h .entry)) (now (e .exit)) (now (u .exit)) (now (v .exit)) (now (q .exit)) (now (f .exit))) ≡ stepCall (channel n x t (now (accepted .entry)) wanted (now (h .entry)) (now (e .entry)) (now (u .entry)) (now (v .entry)) (now (q .entry)) (now (f .entry))) (now (s .entry)) ⌝ }
+    ensures { λ r. ⌜ leaves (record { number = r; stage = now (stage .exit); place = now (place .exit); count = now (count .exit) }) (channel n x t (now (accepted .exit)) wanted (now (h .entry)) (now (e .exit)) (now (u .exit)) (now (v .exit)) (now (q .exit)) (now (f .exit)) (now (damping .entry))) ≡ stepCall (channel n x t (now (accepted .entry)) wanted (now (h .entry)) (now (e .entry)) (now (u .entry)) (now (v .entry)) (now (q .entry)) (now (f .entry)) (now (damping .entry))) (now (s .entry)) ⌝ }
 {
     let c = rule::Counts {
         n,
@@ -68,7 +70,7 @@ pub extern "C" fn lent_step(
         accepted: *accepted,
         wanted,
     };
-    let r = step::step(c, h, e, u, v, q, f, s);
+    let r = step::step(c, h, e, u, v, q, f, damping, s);
     *accepted = r.accepted;
     *stage = r.answer.stage;
     *place = r.answer.place;
@@ -90,11 +92,12 @@ pub extern "C" fn lent_filter(
     v: &mut [i64],
     q: &mut [i64],
     f: &mut [i64],
+    damping: &[i64],
     stage: &mut u64,
     place: &mut u64,
     count: &mut u64,
 ) -> u64
-    ensures { λ r. ⌜ leaves (record { number = r; stage = now (stage .exit); place = now (place .exit); count = now (count .exit) }) (channel n x t accepted wanted (now (h .entry)) (now (e .exit)) (now (u .exit)) (now (v .exit)) (now (q .exit)) (now (f .exit))) ≡ filterCall (channel n x t accepted wanted (now (h .entry)) (now (e .entry)) (now (u .entry)) (now (v .entry)) (now (q .entry)) (now (f .entry))) ⌝ }
+    ensures { λ r. ⌜ leaves (record { number = r; stage = now (stage .exit); place = now (place .exit); count = now (count .exit) }) (channel n x t accepted wanted (now (h .entry)) (now (e .exit)) (now (u .exit)) (now (v .exit)) (now (q .exit)) (now (f .exit)) (now (damping .entry))) ≡ filterCall (channel n x t accepted wanted (now (h .entry)) (now (e .entry)) (now (u .entry)) (now (v .entry)) (now (q .entry)) (now (f .entry)) (now (damping .entry))) ⌝ }
 {
     let c = rule::Counts {
         n,
@@ -103,7 +106,7 @@ pub extern "C" fn lent_filter(
         accepted,
         wanted,
     };
-    let r = filter::filter(c, h, e, u, v, q, f);
+    let r = filter::filter(c, h, e, u, v, q, f, damping);
     *stage = r.stage;
     *place = r.place;
     *count = r.count;
@@ -124,11 +127,12 @@ pub extern "C" fn lent_run(
     v: &mut [i64],
     q: &mut [i64],
     f: &mut [i64],
+    damping: &[i64],
     stage: &mut u64,
     place: &mut u64,
     count: &mut u64,
 ) -> u64
-    ensures { λ r. ⌜ leaves (record { number = r; stage = now (stage .exit); place = now (place .exit); count = now (count .exit) }) (channel n x t (now (accepted .exit)) wanted (now (h .entry)) (now (e .exit)) (now (u .exit)) (now (v .exit)) (now (q .exit)) (now (f .exit))) ≡ runCall (channel n x t (now (accepted .entry)) wanted (now (h .entry)) (now (e .entry)) (now (u .entry)) (now (v .entry)) (now (q .entry)) (now (f .entry))) ⌝ }
+    ensures { λ r. ⌜ leaves (record { number = r; stage = now (stage .exit); place = now (place .exit); count = now (count .exit) }) (channel n x t (now (accepted .exit)) wanted (now (h .entry)) (now (e .exit)) (now (u .exit)) (now (v .exit)) (now (q .exit)) (now (f .exit)) (now (damping .entry))) ≡ runCall (channel n x t (now (accepted .entry)) wanted (now (h .entry)) (now (e .entry)) (now (u .entry)) (now (v .entry)) (now (q .entry)) (now (f .entry)) (now (damping .entry))) ⌝ }
 {
     let c = rule::Counts {
         n,
@@ -137,7 +141,7 @@ pub extern "C" fn lent_run(
         accepted: *accepted,
         wanted,
     };
-    let r = run::run(c, h, e, u, v, q, f);
+    let r = run::run(c, h, e, u, v, q, f, damping);
     *accepted = r.accepted;
     *stage = r.answer.stage;
     *place = r.answer.place;

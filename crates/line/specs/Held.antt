@@ -25,8 +25,8 @@ use Rattle.form.specs.Reader.{fitsIn}
 use Rattle.opened.specs.Held.{four-cut}
 use Rattle.opened.specs.Fitting.{held-row}
 
--- every number is at most 37
-outcome-most : {A : Type 0} (m : Outcome A) → numberOf m ≤ 37
+-- every number is at most 38
+outcome-most : {A : Type 0} (m : Outcome A) → numberOf m ≤ 38
 unfolding numberOf
 outcome-most (refused r k) = number-within r .1
 outcome-most (done a) = omega arith
@@ -36,10 +36,10 @@ module _ (s : List ℕ) (f : Fault) (e : f ≡ faultOf (readWith (fitsIn false s
   pub is-number : f .number ≡ numberOf (read s)
   is-number = numbered e ∙ ap numberOf (plain-read s s)
 
-  pub at-most : f .number ≤ 37
+  pub at-most : f .number ≤ 38
   at-most = omega (arith, is-number, outcome-most (read s))
 
-  -- 1 to 37
+  -- 1 to 38
   pub refused-is : 1 ≤ f .number → refusedOf (f .number) ≡ printFile s
   unfolding printFile read
   refused-is h =

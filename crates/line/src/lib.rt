@@ -21,13 +21,13 @@ fn held_line(s: &[u8], d: &mut [u8]) -> usize
     text::channel_line(d, n, accepted, wanted, &e[..cells])
 }
 
-// What the printing program prints of the bytes s. The reader's number is 0, or a refusal's, at most 37.
+// What the printing program prints of the bytes s. The reader's number is 0, or a refusal's, at most 38.
 pub fn line(s: &[u8], d: &mut [u8; 64]) -> usize
     ensures { λ r. ⌜ (r ≡ length (printFile (now (s .entry)))) × (now (d .exit) ≡ written (now (d .entry)) 0 (printFile (now (s .entry)))) × (r ≤ 64) ⌝ }
 {
     let number = reader::check(s, false, s).number;
     match number {
-        1..=37 => text::refused_line(d, number),
+        1..=38 => text::refused_line(d, number),
         _ => held_line(s, d),
     }
 }

@@ -11,8 +11,8 @@ use Rattle.rule.specs.Counted.{leftOf}
 use Rattle.make.proofs.make.Kinds as kinds
 use Rattle.make.proofs.make.Reads.{Post}
 
-module _ (κs : Lfts 6) (a : Dens κs kinds.ps) (r r′ : resT kinds.r κs .Denot) (x x′ : AtExit (endedOf 6 kinds.ps kinds.r) κs) where
-  -- in the answer with the count, and in each row that is lent to be filled: the places of v, q and f among the seven that make takes
+module _ (κs : Lfts 7) (a : Dens κs kinds.ps) (r r′ : resT kinds.r κs .Denot) (x x′ : AtExit (endedOf 7 kinds.ps kinds.r) κs) where
+  -- in the answer with the count, and in each row that is lent to be filled: the places of v, q and f among the eight that make takes
   pub record Coincide : Type 0 where
     pub answer : r ≡ r′
     pub v : now (x .1 .1 .1 .1 .0) ≡ now (x′ .1 .1 .1 .1 .0)

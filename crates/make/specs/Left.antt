@@ -27,10 +27,10 @@ use Rattle.work_out.specs.declared.Made.{Made}
 use Rattle.work_out.specs.Made.{madeOf, made-fault, rowsOf, rows-kept, whole-of}
 
 -- a refusal of make has stage 0
-make-outside : (n X T wanted : ℕ) (h e u : Row) → Outside (make n X T wanted h e u)
+make-outside : (n X T wanted : ℕ) (h e u damping : Row) → Outside (make n X T wanted h e u damping)
 unfolding make reducedVelocities fluxes number
-make-outside n X T wanted h e u =
-    refuses-then Early (makeChecked n X T wanted h e u) _ (make-checked-outside n X T wanted h e u)
+make-outside n X T wanted h e u damping =
+    refuses-then Early (makeChecked n X T wanted h e u damping) _ (make-checked-outside n X T wanted h e u damping)
     (λ _. refuses-then Early (reducedVelocities n X h u) _ (refuses-test Early _ speed _ refl tt)
     (λ v. refuses-then Early (fluxes n X h e u) _ (refuses-test Early _ flux _ refl tt) (λ Q. tt)))
 
@@ -38,9 +38,9 @@ fits : (lent : Channel) (b : Bool) (m : Outcome Channel) → b ≡ true → plai
 unfolding require _>>=_
 fits lent b m z = rw z
 
-make-unfit : (n X T wanted : ℕ) (h e u : Row) → cellsAllowed n ≡ false → make n X T wanted h e u ≡ refused shape 0
+make-unfit : (n X T wanted : ℕ) (h e u damping : Row) → cellsAllowed n ≡ false → make n X T wanted h e u damping ≡ refused shape 0
 unfolding make makeChecked require _>>=_
-make-unfit n X T wanted h e u z = rw z
+make-unfit n X T wanted h e u damping z = rw z
 
 went : (b : Bool) (new row : Row) → (require b speed >>= λ _. done row) ≡ done new → new ≡ row
 unfolding require _>>=_
@@ -54,7 +54,7 @@ length-velocities n X h u v e = ap length (went _ v _ e ∙ map-tab roundedFloat
 -- the ways out, with r what was worked out from the lent channel
 module _ (lent : Channel) where
   abbrev made : Outcome Channel
-  made = make (lent .N) (lent .X) (lent .T) (lent .wanted) (lent .h) (lent .e) (lent .u)
+  made = make (lent .N) (lent .X) (lent .T) (lent .wanted) (lent .h) (lent .e) (lent .u) (lent .damping)
 
   call-is : plainly lent (require (fit lent (lent .N)) shape >>= λ _. made) ≡ makeCall lent
   unfolding makeCall
@@ -62,7 +62,7 @@ module _ (lent : Channel) where
 
   pub refused-1 : cellsAllowed (lent .N) && fit lent (lent .N) ≡ false → leaves (early (plain 1)) lent ≡ makeCall lent
   unfolding makeCall plainly
-  refused-1 z = unfit-call lent (λ _. 0) (λ c. c) (cellsAllowed (lent .N)) (fit lent (lent .N)) made (make-unfit (lent .N) (lent .X) (lent .T) (lent .wanted) (lent .h) (lent .e) (lent .u)) z
+  refused-1 z = unfit-call lent (λ _. 0) (λ c. c) (cellsAllowed (lent .N)) (fit lent (lent .N)) made (make-unfit (lent .N) (lent .X) (lent .T) (lent .wanted) (lent .h) (lent .e) (lent .u) (lent .damping)) z
 
   module _ (fitting : fit lent (lent .N) ≡ true) (r : Made) (is : r ≡ madeOf (lent .N) made) where
     fault-is : r .fault ≡ faultOf made
@@ -74,7 +74,7 @@ module _ (lent : Channel) where
     pub refused-by : (r .fault .number ≡ 0 → ⊥) → leaves (early (r .fault)) lent ≡ makeCall lent
     unfolding plainly
     refused-by z =
-        refused-call lent (λ _. 0) (λ c. c) (r .fault) made (make-outside (lent .N) (lent .X) (lent .T) (lent .wanted) (lent .h) (lent .e) (lent .u)) fault-is z ∙ past-1
+        refused-call lent (λ _. 0) (λ c. c) (r .fault) made (make-outside (lent .N) (lent .X) (lent .T) (lent .wanted) (lent .h) (lent .e) (lent .u) (lent .damping)) fault-is z ∙ past-1
 
     -- with all rows stored
     abbrev after : Channel
@@ -92,14 +92,15 @@ module _ (lent : Channel) where
         let h = lent .h in
         let e = lent .e in
         let u = lent .u in
-        let w = whole-of n X T wanted h e u (sym (numbered fault-is) ∙ z) in
-        let k : r ≡ rowsOf n (w .v) (w .Q) (accelerations n X e u) = is ∙ sym (rows-kept n X T wanted h e u w) in
+        let damping = lent .damping in
+        let w = whole-of n X T wanted h e u damping (sym (numbered fault-is) ∙ z) in
+        let k : r ≡ rowsOf n (w .v) (w .Q) (accelerations n X e u damping) = is ∙ sym (rows-kept n X T wanted h e u damping w) in
         let v-is : renewed n (firsts n (r .v)) (lent .v) ≡ w .v =
         renewed-all n (firsts n (r .v)) (lent .v) v-long
         ∙ ap (λ (t : Made). firsts n (t .v)) k
         ∙ firsts-padded n (w .v) (length-velocities n X h u (w .v) (w .v-done)) in
         let Q-is : firsts (n - 1) (r .q) ≡ w .Q =
         ap (λ (t : Made). firsts (n - 1) (t .q)) k ∙ firsts-padded (n - 1) (w .Q) (length-fluxes n X h e u (w .Q) (w .Q-done)) in
-        let F-is : firsts n (r .f) ≡ accelerations n X e u =
-        ap (λ (t : Made). firsts n (t .f)) k ∙ firsts-padded n (accelerations n X e u) (length-accelerations n X e u) in
-        (λ i. leaves (acceptance 0) (channel n X T 0 wanted h e u (v-is i) (filled (Q-is i)) (filled (F-is i)))) ∙ accepted-call lent (λ _. 0) (λ c. c) made _ (w .is) ∙ past-1
+        let F-is : firsts n (r .f) ≡ accelerations n X e u damping =
+        ap (λ (t : Made). firsts n (t .f)) k ∙ firsts-padded n (accelerations n X e u damping) (length-accelerations n X e u damping) in
+        (λ i. leaves (acceptance 0) (channel n X T 0 wanted h e u (v-is i) (filled (Q-is i)) (filled (F-is i)) damping)) ∙ accepted-call lent (λ _. 0) (λ c. c) made _ (w .is) ∙ past-1

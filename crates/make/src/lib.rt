@@ -1,9 +1,9 @@
-// Making: a channel from its counts, depths h, heights e and velocities u.
+// Making: a channel from its counts, depths h, heights e, velocities u and damping.
 ghost use mathlib.Core.Path.{_≡_};
 ghost use Rattle.rule.specs.Counted.{counted, left};
 ghost use Rattle.rule.specs.Calls.{makeCall};
 
-// Of the lent rows h, e and u are read, the others are filled; no step of what is made is accepted. A refused call leaves them
+// Of the lent rows h, e, u and damping are read, the others are filled; no step of what is made is accepted. A refused call leaves them
 // all, and the count of accepted steps, as they were.
 pub fn make(
     c: rule::Counts,
@@ -13,10 +13,11 @@ pub fn make(
     v: &mut [i64],
     q: &mut [i64],
     f: &mut [i64],
+    damping: &[i64],
 ) -> rule::Left
-    ensures { λ r. ⌜ left c r (now (h .entry)) (now (e .entry)) (now (u .entry)) (now (v .exit)) (now (q .exit)) (now (f .exit)) ≡ makeCall (counted c (now (h .entry)) (now (e .entry)) (now (u .entry)) (now (v .entry)) (now (q .entry)) (now (f .entry))) ⌝ }
+    ensures { λ r. ⌜ left c r (now (h .entry)) (now (e .entry)) (now (u .entry)) (now (v .exit)) (now (q .exit)) (now (f .exit)) (now (damping .entry)) ≡ makeCall (counted c (now (h .entry)) (now (e .entry)) (now (u .entry)) (now (v .entry)) (now (q .entry)) (now (f .entry)) (now (damping .entry))) ⌝ }
 {
-    if !checks::shaped(c.n, h, e, u, v, q, f) {
+    if !checks::shaped(c.n, h, e, u, v, q, f, damping) {
         let unfit = rule::Fault {
             number: 1,
             place: 0,
@@ -26,7 +27,7 @@ pub fn make(
             accepted: c.accepted,
         };
     }
-    let made = work_out::work_out(c, h, e, u);
+    let made = work_out::work_out(c, h, e, u, damping);
     let fault = made.fault;
     if fault.number != 0 {
         return rule::Left {

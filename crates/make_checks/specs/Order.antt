@@ -26,16 +26,16 @@ unfoldable pub bufferChecked : ℕ → ℕ → Outcome (Unit {0})
 bufferChecked n room = require (eqb room (lengthOf edition n)) bufferLength
 
 -- the input checks, then 15
-unfoldable pub tested : ℕ → ℕ → ℕ → ℕ → Row → Row → Row → ℕ → Outcome (Unit {0})
-tested n X T wanted h e u room = makeChecked n X T wanted h e u >>= λ _. bufferChecked n room
+unfoldable pub tested : ℕ → ℕ → ℕ → ℕ → Row → Row → Row → Row → ℕ → Outcome (Unit {0})
+tested n X T wanted h e u damping room = makeChecked n X T wanted h e u damping >>= λ _. bufferChecked n room
 
 -- the file of the channel that is made, in the buffer s
 unfoldable pub filed : List ℕ → Outcome Channel → Called (List ℕ)
 filed s m = called s (λ _. 0) fileOf m
 
 -- from rows of whole numbers
-unfoldable pub makeRows : ℕ → ℕ → ℕ → ℕ → Row → Row → Row → List ℕ → Called (List ℕ)
-makeRows n X T wanted h e u s = filed s (tested n X T wanted h e u (length s) >>= λ _. make n X T wanted h e u)
+unfoldable pub makeRows : ℕ → ℕ → ℕ → ℕ → Row → Row → Row → Row → List ℕ → Called (List ℕ)
+makeRows n X T wanted h e u damping s = filed s (tested n X T wanted h e u damping (length s) >>= λ _. make n X T wanted h e u damping)
 
 pub buffer-15 : (n room : ℕ) → (room ≡ lengthOf edition n → ⊥) → plain 15 ≡ faultOf (bufferChecked n room)
 unfolding bufferChecked require numberOf placeOf number place
@@ -45,48 +45,48 @@ pub buffer-0 : (n room : ℕ) → room ≡ lengthOf edition n → none ≡ fault
 unfolding bufferChecked require numberOf placeOf
 buffer-0 n room z = rw (eq-eqb room (lengthOf edition n) z)
 
-module _ (n X T wanted : ℕ) (h e u : Row) where
-  pub tested-is : (room : ℕ) (one other : Fault) → one ≡ faultOf (makeChecked n X T wanted h e u) → other ≡ faultOf (bufferChecked n room) → firstOf one other ≡ faultOf (tested n X T wanted h e u room)
+module _ (n X T wanted : ℕ) (h e u damping : Row) where
+  pub tested-is : (room : ℕ) (one other : Fault) → one ≡ faultOf (makeChecked n X T wanted h e u damping) → other ≡ faultOf (bufferChecked n room) → firstOf one other ≡ faultOf (tested n X T wanted h e u damping room)
   unfolding tested
-  tested-is room one other p q = first-is (makeChecked n X T wanted h e u) (λ _. bufferChecked n room) one other p q
+  tested-is room one other p q = first-is (makeChecked n X T wanted h e u damping) (λ _. bufferChecked n room) one other p q
 
   -- a refusal of an input or of a buffer has stage 0
-  tested-outside : (room : ℕ) → Outside (tested n X T wanted h e u room)
+  tested-outside : (room : ℕ) → Outside (tested n X T wanted h e u damping room)
   unfolding tested bufferChecked number
   tested-outside room =
-      refuses-then Early (makeChecked n X T wanted h e u) _ (make-checked-outside n X T wanted h e u)
+      refuses-then Early (makeChecked n X T wanted h e u damping) _ (make-checked-outside n X T wanted h e u damping)
       (λ _. refuses-last Early (eqb room (lengthOf edition n)) bufferLength refl)
 
   -- what the tests let pass
-  pub passed-both : (room : ℕ) → numberOf (tested n X T wanted h e u room) ≡ 0 → Makeable n X T wanted h e u × (room ≡ lengthOf edition n)
+  pub passed-both : (room : ℕ) → numberOf (tested n X T wanted h e u damping room) ≡ 0 → Makeable n X T wanted h e u damping × (room ≡ lengthOf edition n)
   unfolding tested bufferChecked
   passed-both room z =
-      let p = both-done (makeChecked n X T wanted h e u) (λ _. bufferChecked n room) z in
-      (makeable-of n X T wanted h e u (p .0), eqb-true room (lengthOf edition n) (passed-last (eqb room (lengthOf edition n)) bufferLength (p .1)))
+      let p = both-done (makeChecked n X T wanted h e u damping) (λ _. bufferChecked n room) z in
+      (makeable-of n X T wanted h e u damping (p .0), eqb-true room (lengthOf edition n) (passed-last (eqb room (lengthOf edition n)) bufferLength (p .1)))
 
   module _ (s : List ℕ) where
     -- a test refuses
-    pub rows-refused : (k : Fault) → k ≡ faultOf (tested n X T wanted h e u (length s)) → (k .number ≡ 0 → ⊥) → leavesBytes (early k) s ≡ makeRows n X T wanted h e u s
+    pub rows-refused : (k : Fault) → k ≡ faultOf (tested n X T wanted h e u damping (length s)) → (k .number ≡ 0 → ⊥) → leavesBytes (early k) s ≡ makeRows n X T wanted h e u damping s
     unfolding makeRows filed
-    rows-refused k p z = refused-first s (λ _. 0) fileOf k (tested n X T wanted h e u (length s)) _ (tested-outside (length s)) p z
+    rows-refused k p z = refused-first s (λ _. 0) fileOf k (tested n X T wanted h e u damping (length s)) _ (tested-outside (length s)) p z
 
     -- and none does
-    pub rows-pass : numberOf (tested n X T wanted h e u (length s)) ≡ 0 → filed s (make n X T wanted h e u) ≡ makeRows n X T wanted h e u s
+    pub rows-pass : numberOf (tested n X T wanted h e u damping (length s)) ≡ 0 → filed s (make n X T wanted h e u damping) ≡ makeRows n X T wanted h e u damping s
     unfolding makeRows _>>=_
-    rows-pass z = rw (done-of (tested n X T wanted h e u (length s)) z)
+    rows-pass z = rw (done-of (tested n X T wanted h e u damping (length s)) z)
 
 -- 1, of N and of rows in bytes
-module _ (n X T wanted : ℕ) (h e u s : List ℕ) where
+module _ (n X T wanted : ℕ) (h e u damping s : List ℕ) where
   abbrev allHold : Bool
-  allHold = holds h n && holds e n && holds u n
+  allHold = holds h n && holds e n && holds u n && holds damping n
 
-  pub file-unfit : cellsAllowed n && allHold ≡ false → leavesBytes (early (plain 1)) s ≡ makeFile n X T wanted h e u s
+  pub file-unfit : cellsAllowed n && allHold ≡ false → leavesBytes (early (plain 1)) s ≡ makeFile n X T wanted h e u damping s
   unfolding makeFile makeChecked require _>>=_
   file-unfit z = unfit-call s (λ _. 0) fileOf (cellsAllowed n) allHold _ (λ i. rw i) z
 
-  pub file-fit : allHold ≡ true → makeRows n X T wanted (rowIn h) (rowIn e) (rowIn u) s ≡ makeFile n X T wanted h e u s
+  pub file-fit : allHold ≡ true → makeRows n X T wanted (rowIn h) (rowIn e) (rowIn u) (rowIn damping) s ≡ makeFile n X T wanted h e u damping s
   unfolding makeFile makeRows filed tested bufferChecked require _>>=_
   file-fit z =
       rw z
       (ap (called s (λ _. 0) fileOf)
-      (sym (regroup (makeChecked n X T wanted (rowIn h) (rowIn e) (rowIn u)) (λ _. bufferChecked n (length s)) (λ _. make n X T wanted (rowIn h) (rowIn e) (rowIn u)))))
+      (sym (regroup (makeChecked n X T wanted (rowIn h) (rowIn e) (rowIn u) (rowIn damping)) (λ _. bufferChecked n (length s)) (λ _. make n X T wanted (rowIn h) (rowIn e) (rowIn u) (rowIn damping)))))

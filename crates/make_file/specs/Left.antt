@@ -28,23 +28,24 @@ use Rattle.put.specs.Asked.{writable-of, WritableOf}
 use Rattle.make_checks.specs.Order.{filed}
 
 -- n cells, their rows, and a buffer of their file's length
-pub record Fitting (n : ℕ) (h e u : Row) (s : List ℕ) : Type 0 where
+pub record Fitting (n : ℕ) (h e u damping : Row) (s : List ℕ) : Type 0 where
   pub least : leastCells ≤ n
   pub most : n ≤ mostCells
   pub h-long : length h ≡ n
   pub e-long : length e ≡ n
   pub u-long : length u ≡ n
+  pub damping-long : length damping ≡ n
   pub sized : length s ≡ lengthOf edition n
 
-pub fitting-of : (n X T wanted : ℕ) (h e u : Row) (s : List ℕ) → Makeable n X T wanted h e u × (length s ≡ lengthOf edition n) → Fitting n h e u s
-fitting-of n X T wanted h e u s p =
+pub fitting-of : (n X T wanted : ℕ) (h e u damping : Row) (s : List ℕ) → Makeable n X T wanted h e u damping × (length s ≡ lengthOf edition n) → Fitting n h e u damping s
+fitting-of n X T wanted h e u damping s p =
     let c = p .0 .cells in
-    record { least = c .least; most = c .most; h-long = c .h-long; e-long = c .e-long; u-long = c .u-long; sized = p .1 }
+    record { least = c .least; most = c .most; h-long = c .h-long; e-long = c .e-long; u-long = c .u-long; damping-long = p .0 .damped .long; sized = p .1 }
 
 -- lent rows of a channel's lengths are not refused
 fits : (c : Channel) → LengthsOf c → fit c (c .N) ≡ true
 unfolding fit rows
-fits c l = lengths-pass (c .N) (c .h) (c .e) (c .u) (c .v) (c .Q) (c .F) l
+fits c l = lengths-pass (c .N) (c .h) (c .e) (c .u) (c .v) (c .Q) (c .F) (c .damping) l
 
 -- an outcome m of a call on the lent channel, told by its answer r and by the channel c that it leaves
 module _ (lent c : Channel) (r : Answer) (s : List ℕ) where
@@ -67,7 +68,7 @@ module _ (lent c : Channel) (r : Answer) (s : List ℕ) where
 -- of make, on lent rows of the lengths that it asks
 module _ (lent c : Channel) (r : Answer) (s : List ℕ) (is : leaves r c ≡ makeCall lent) (long : LengthsOf lent) where
   abbrev made : Outcome Channel
-  made = make (lent .N) (lent .X) (lent .T) (lent .wanted) (lent .h) (lent .e) (lent .u)
+  made = make (lent .N) (lent .X) (lent .T) (lent .wanted) (lent .h) (lent .e) (lent .u) (lent .damping)
 
   told : leaves r c ≡ plainly lent made
   unfolding makeCall require _>>=_
@@ -77,25 +78,27 @@ module _ (lent c : Channel) (r : Answer) (s : List ℕ) (is : leaves r c ≡ mak
   made-refused z = refuses lent c r s made told z
 
   pub made-writable : r .number ≡ 0 → WritableOf c
-  made-writable z = writable-of c [] (make-passes (lent .N) (lent .X) (lent .T) (lent .wanted) (lent .h) (lent .e) (lent .u) c (makes lent c r s made told z))
+  made-writable z = writable-of c [] (make-passes (lent .N) (lent .X) (lent .T) (lent .wanted) (lent .h) (lent .e) (lent .u) (lent .damping) c (makes lent c r s made told z))
 
   pub made-filed : (after : List ℕ) → r .number ≡ 0 → after ≡ fileOf c → leavesBytes r after ≡ filed s made
   made-filed after z q = files lent c r s made after told z q
 
 -- rows of n entries in bytes
-pub record Held (n : ℕ) (h e u : List ℕ) : Type 0 where
+pub record Held (n : ℕ) (h e u damping : List ℕ) : Type 0 where
   pub least : leastCells ≤ n
   pub most : n ≤ mostCells
-  pub hold : holds h n && holds e n && holds u n ≡ true
+  pub hold : holds h n && holds e n && holds u n && holds damping n ≡ true
   pub h-bytes : length h ≡ 4 * n
   pub e-bytes : length e ≡ 4 * n
   pub u-bytes : length u ≡ 4 * n
+  pub damping-bytes : length damping ≡ 4 * n
 
-pub held-of : (n : ℕ) (h e u : List ℕ) → cellsAllowed n && (holds h n && holds e n && holds u n) ≡ true → Held n h e u
+pub held-of : (n : ℕ) (h e u damping : List ℕ) → cellsAllowed n && (holds h n && holds e n && holds u n && holds damping n) ≡ true → Held n h e u damping
 unfolding holds
-held-of n h e u z =
-    let p = both (cellsAllowed n) (holds h n && holds e n && holds u n) z in
-    let q = both (holds h n && holds e n) (holds u n) (p .1) in
+held-of n h e u damping z =
+    let p = both (cellsAllowed n) (holds h n && holds e n && holds u n && holds damping n) z in
+    let d = both (holds h n && holds e n && holds u n) (holds damping n) (p .1) in
+    let q = both (holds h n && holds e n) (holds u n) (d .0) in
     let r = both (holds h n) (holds e n) (q .0) in
     let few = cells-few n (p .0) in
     record {
@@ -105,6 +108,7 @@ held-of n h e u z =
       h-bytes = eqb-true (length h) (4 * n) (r .0);
       e-bytes = eqb-true (length e) (4 * n) (r .1);
       u-bytes = eqb-true (length u) (4 * n) (q .1);
+      damping-bytes = eqb-true (length damping) (4 * n) (d .1);
     }
 
 -- a row that was read into an array, cut to its length

@@ -26,7 +26,7 @@ fn levels_room() -> [i64; 3 * rule::MOST_CELLS]
     [0; 3 * rule::MOST_CELLS]
 }
 
-// The file of the channel that is made of h, e and u, where it is made. The rows v, q and f are filled on the way.
+// The file of the channel that is made of h, e, u and damping, where it is made. The rows v, q and f are filled on the way.
 fn make_in(
     c: rule::Counts,
     h: &[i64],
@@ -35,24 +35,32 @@ fn make_in(
     v: &mut [i64],
     q: &mut [i64],
     f: &mut [i64],
+    damping: &[i64],
     file: &mut [u8],
 ) -> rule::Answer
-    requires { ⌜ (length (now file) ≡ lengthOf edition (c .n)) × Lengths (c .n) (now h) (now e) (now u) (now v) (now q) (now f) ⌝ }
-    ensures { λ r. ⌜ leavesBytes r (now (file .exit)) ≡ filed (now (file .entry)) (rule.make (c .n) (c .x) (c .t) (c .wanted) (now (h .entry)) (now (e .entry)) (now (u .entry))) ⌝ }
+    requires { ⌜ (length (now file) ≡ lengthOf edition (c .n)) × Lengths (c .n) (now h) (now e) (now u) (now v) (now q) (now f) (now damping) ⌝ }
+    ensures { λ r. ⌜ leavesBytes r (now (file .exit)) ≡ filed (now (file .entry)) (rule.make (c .n) (c .x) (c .t) (c .wanted) (now (h .entry)) (now (e .entry)) (now (u .entry)) (now (damping .entry))) ⌝ }
 {
-    let r = make::make(c, h, e, u, v, q, f);
+    let r = make::make(c, h, e, u, v, q, f, damping);
     let answer = r.answer;
     if answer.number != 0 {
         return answer;
     }
-    put::put(file, c.after(r.accepted), h, e, u, v, q, f);
+    put::put(file, c.after(r.accepted), h, e, u, v, q, f, damping);
     answer
 }
 
 // The same, with rows of its own for what is made.
-fn make_fitting(c: rule::Counts, h: &[i64], e: &[i64], u: &[i64], file: &mut [u8]) -> rule::Answer
-    requires { ⌜ Fitting (c .n) (now h) (now e) (now u) (now file) ⌝ }
-    ensures { λ r. ⌜ leavesBytes r (now (file .exit)) ≡ filed (now (file .entry)) (rule.make (c .n) (c .x) (c .t) (c .wanted) (now (h .entry)) (now (e .entry)) (now (u .entry))) ⌝ }
+fn make_fitting(
+    c: rule::Counts,
+    h: &[i64],
+    e: &[i64],
+    u: &[i64],
+    damping: &[i64],
+    file: &mut [u8],
+) -> rule::Answer
+    requires { ⌜ Fitting (c .n) (now h) (now e) (now u) (now damping) (now file) ⌝ }
+    ensures { λ r. ⌜ leavesBytes r (now (file .exit)) ≡ filed (now (file .entry)) (rule.make (c .n) (c .x) (c .t) (c .wanted) (now (h .entry)) (now (e .entry)) (now (u .entry)) (now (damping .entry))) ⌝ }
 {
     let n = c.n;
     let faces = 3 * (n - 1);
@@ -68,23 +76,31 @@ fn make_fitting(c: rule::Counts, h: &[i64], e: &[i64], u: &[i64], file: &mut [u8
         &mut v[..n],
         &mut q[..faces],
         &mut f[..cells],
+        damping,
         file,
     )
 }
 
 // From rows of whole numbers.
-fn make_rows(c: rule::Counts, h: &[i64], e: &[i64], u: &[i64], file: &mut [u8]) -> rule::Answer
+fn make_rows(
+    c: rule::Counts,
+    h: &[i64],
+    e: &[i64],
+    u: &[i64],
+    damping: &[i64],
+    file: &mut [u8],
+) -> rule::Answer
     requires { ⌜ (1 ≤ c .n) × (c .n ≤ mostCells) ⌝ }
-    ensures { λ r. ⌜ leavesBytes r (now (file .exit)) ≡ makeRows (c .n) (c .x) (c .t) (c .wanted) (now (h .entry)) (now (e .entry)) (now (u .entry)) (now (file .entry)) ⌝ }
+    ensures { λ r. ⌜ leavesBytes r (now (file .exit)) ≡ makeRows (c .n) (c .x) (c .t) (c .wanted) (now (h .entry)) (now (e .entry)) (now (u .entry)) (now (damping .entry)) (now (file .entry)) ⌝ }
 {
-    let fault = make_checks::check(c, h, e, u, file.len());
+    let fault = make_checks::check(c, h, e, u, damping, file.len());
     if fault.number != 0 {
         return answers::refused(fault, 0);
     }
-    make_fitting(c, h, e, u, file)
+    make_fitting(c, h, e, u, damping, file)
 }
 
-// The channel of N, X, T, wanted and the rows h, e and u, written into a buffer of exactly its file's length. A row has four
+// The channel of N, X, T, wanted and the rows h, e, u and damping, written into a buffer of exactly its file's length. A row has four
 // bytes for each entry. A refused call leaves the buffer as it was.
 pub fn make(
     n: u64,
@@ -94,11 +110,12 @@ pub fn make(
     h: &[u8],
     e: &[u8],
     u: &[u8],
+    damping: &[u8],
     file: &mut [u8],
 ) -> rule::Answer
-    ensures { λ r. ⌜ leavesBytes r (now (file .exit)) ≡ makeFile n x t wanted (now (h .entry)) (now (e .entry)) (now (u .entry)) (now (file .entry)) ⌝ }
+    ensures { λ r. ⌜ leavesBytes r (now (file .exit)) ≡ makeFile n x t wanted (now (h .entry)) (now (e .entry)) (now (u .entry)) (now (damping .entry)) (now (file .entry)) ⌝ }
 {
-    if !make_checks::shape_passes(n, h, e, u) {
+    if !make_checks::shape_passes(n, h, e, u, damping) {
         let unfit = rule::Fault {
             number: 1,
             place: 0,
@@ -109,6 +126,7 @@ pub fn make(
     let depths = little::read_row4(h, 0, cells);
     let heights = little::read_row4(e, 0, cells);
     let velocities = little::read_row4(u, 0, cells);
+    let dampings = little::read_row4(damping, 0, cells);
     let c = rule::Counts {
         n: cells,
         x,
@@ -121,6 +139,7 @@ pub fn make(
         &depths[..cells],
         &heights[..cells],
         &velocities[..cells],
+        &dampings[..cells],
         file,
     )
 }

@@ -34,14 +34,15 @@ module _ {s : List ℕ} {h e u v : Row} (w : CellsFit s h e u v) where
   unfolding widths
   cells-start i l = (omega arith, (omega (arith, w .least, w .h-long), omega (arith, w .most, w .h-long)))
 
--- and levels
-pub record LevelsFit (n : ℕ) (s : List ℕ) (Q F : Row) : Type 0 where
+-- and its levels and damping
+pub record LevelsFit (n : ℕ) (s : List ℕ) (Q F damping : Row) : Type 0 where
   pub cells : countOf s 1 ≡ n
   pub least : leastCells ≤ n
   pub most : n ≤ mostCells
   pub sized : length s ≡ lengthOf edition n
   pub Q-long : length Q ≡ 3 * (n - 1)
   pub F-long : length F ≡ 3 * n
+  pub damping-long : length damping ≡ n
 
 -- row i of what s holds, as the code has it
 pub held-row :
@@ -50,13 +51,13 @@ pub held-row :
 held-row s n i start width long e = row-is edition n i start width long s ∙ ap (λ j. rowOf edition j s i) e
 
 -- a file whose form is right, and rows of the lengths of its own
-pub record Opens (s : List ℕ) (h e u v Q F : Row) : Type 0 where
+pub record Opens (s : List ℕ) (h e u v Q F damping : Row) : Type 0 where
   pub least : leastCells ≤ countOf s 1
   pub most : countOf s 1 ≤ mostCells
   pub sized : length s ≡ lengthOf edition (countOf s 1)
-  pub long : Lengths (countOf s 1) h e u v Q F
+  pub long : Lengths (countOf s 1) h e u v Q F damping
 
-module _ {s : List ℕ} {h e u v Q F : Row} (o : Opens s h e u v Q F) where
+module _ {s : List ℕ} {h e u v Q F damping : Row} (o : Opens s h e u v Q F damping) where
   pub head-held : leastLength ≤ length s
   unfolding headLength countsIn widths
   head-held = omega (arith, o .sized, head-within edition (countOf s 1))
@@ -64,15 +65,15 @@ module _ {s : List ℕ} {h e u v Q F : Row} (o : Opens s h e u v Q F) where
   pub cells-fit : CellsFit s h e u v
   cells-fit = record { least = o .least; most = o .most; sized = o .sized; h-long = o .long .h-long; e-long = o .long .e-long; u-long = o .long .u-long; v-long = o .long .v-long }
 
-  pub levels-fit : (n : ℕ) → n ≡ countOf s 1 → LevelsFit n s Q F
-  levels-fit n e = rw e (record { cells = refl; least = o .least; most = o .most; sized = o .sized; Q-long = o .long .Q-long; F-long = o .long .F-long })
+  pub levels-fit : (n : ℕ) → n ≡ countOf s 1 → LevelsFit n s Q F damping
+  levels-fit n e = rw e (record { cells = refl; least = o .least; most = o .most; sized = o .sized; Q-long = o .long .Q-long; F-long = o .long .F-long; damping-long = o .long .damping-long })
 
 -- parts of arrays are such, of a file of n cells
 pub opens-parts :
-    (s : List ℕ) (n : ℕ) (h e u v Q F : Row) → countOf s 1 ≡ n → leastCells ≤ n → n ≤ mostCells → length s ≡ lengthOf edition n →
-    length h ≡ mostCells → length e ≡ mostCells → length u ≡ mostCells → length v ≡ mostCells → length Q ≡ 3 * mostCells → length F ≡ 3 * mostCells →
-    Opens s (take n h) (take n e) (take n u) (take n v) (take (3 * (n - 1)) Q) (take (3 * n) F)
-opens-parts s n h e u v Q F is few most sized a b c d q f =
+    (s : List ℕ) (n : ℕ) (h e u v Q F damping : Row) → countOf s 1 ≡ n → leastCells ≤ n → n ≤ mostCells → length s ≡ lengthOf edition n →
+    length h ≡ mostCells → length e ≡ mostCells → length u ≡ mostCells → length v ≡ mostCells → length Q ≡ 3 * mostCells → length F ≡ 3 * mostCells → length damping ≡ mostCells →
+    Opens s (take n h) (take n e) (take n u) (take n v) (take (3 * (n - 1)) Q) (take (3 * n) F) (take n damping)
+opens-parts s n h e u v Q F damping is few most sized a b c d q f g =
     let m = sym is in
     record {
       least = omega (arith, is, few);
@@ -86,5 +87,6 @@ opens-parts s n h e u v Q F is few most sized a b c d q f =
             v-long = length-take-le n v (omega arith) ∙ m;
             Q-long = length-take-le (3 * (n - 1)) Q (omega arith) ∙ ap (λ k. 3 * (k - 1)) m;
             F-long = length-take-le (3 * n) F (omega arith) ∙ ap (λ k. 3 * k) m;
+            damping-long = length-take-le n damping (omega arith) ∙ m;
           };
     }

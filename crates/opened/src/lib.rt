@@ -53,13 +53,14 @@ pub fn keep_cells(s: &[u8], h: &mut [i64], e: &mut [i64], u: &mut [i64], v: &mut
     little::keep_row(false, s, layout::start_of(layout::EDITION, 3, n), v);
 }
 
-// The levels of a file of n cells: of Q and of F.
-pub fn keep_levels(s: &[u8], n: usize, q: &mut [i64], f: &mut [i64])
-    requires { ⌜ LevelsFit n (now s) (now q) (now f) ⌝ }
-    ensures { λ r. ⌜ (now (q .exit) ≡ channelOf (now (s .entry)) .Q) × (now (f .exit) ≡ channelOf (now (s .entry)) .F) ⌝ }
+// The levels of a file of n cells, of Q and of F, and its damping.
+pub fn keep_levels(s: &[u8], n: usize, q: &mut [i64], f: &mut [i64], damping: &mut [i64])
+    requires { ⌜ LevelsFit n (now s) (now q) (now f) (now damping) ⌝ }
+    ensures { λ r. ⌜ (now (q .exit) ≡ channelOf (now (s .entry)) .Q) × (now (f .exit) ≡ channelOf (now (s .entry)) .F) × (now (damping .exit) ≡ channelOf (now (s .entry)) .damping) ⌝ }
 {
     little::keep_row(true, s, layout::start_of(layout::EDITION, 4, n), q);
     little::keep_row(true, s, layout::start_of(layout::EDITION, 5, n), f);
+    little::keep_row(false, s, layout::start_of(layout::EDITION, 6, n), damping);
 }
 
 // The channel of a file whose form is right: its rows in lent ones of their lengths, and its counts.
@@ -71,12 +72,13 @@ pub fn opened(
     v: &mut [i64],
     q: &mut [i64],
     f: &mut [i64],
+    damping: &mut [i64],
 ) -> rule::Counts
-    requires { ⌜ Opens (now s) (now h) (now e) (now u) (now v) (now q) (now f) ⌝ }
-    ensures { λ r. ⌜ counted r (now (h .exit)) (now (e .exit)) (now (u .exit)) (now (v .exit)) (now (q .exit)) (now (f .exit)) ≡ channelOf (now (s .entry)) ⌝ }
+    requires { ⌜ Opens (now s) (now h) (now e) (now u) (now v) (now q) (now f) (now damping) ⌝ }
+    ensures { λ r. ⌜ counted r (now (h .exit)) (now (e .exit)) (now (u .exit)) (now (v .exit)) (now (q .exit)) (now (f .exit)) (now (damping .exit)) ≡ channelOf (now (s .entry)) ⌝ }
 {
     let c = counts(s);
     keep_cells(s, h, e, u, v);
-    keep_levels(s, c.n, q, f);
+    keep_levels(s, c.n, q, f, damping);
     c
 }

@@ -52,19 +52,19 @@ unfolding runForFile read
 run-answer most s = by-read (runForCall most) s _ (read-bounded (λ _. true) [] s) (run-small most)
 
 -- a channel that is made
-module _ (n X T wanted : ℕ) (h e u : Row) where
-  make-bounded : Bounded (make n X T wanted h e u)
+module _ (n X T wanted : ℕ) (h e u damping : Row) where
+  make-bounded : Bounded (make n X T wanted h e u damping)
   unfolding make reducedVelocities place
   make-bounded =
-      bounded-then _ _ (made-bounded n X T wanted h e u) (λ _ _.
+      bounded-then _ _ (made-bounded n X T wanted h e u damping) (λ _ _.
       bounded-then (reducedVelocities n X h u) _ (bounded-test _ speed _ refl (λ _. tt)) (λ _ _.
       bounded-then (fluxes n X h e u) _ (fluxes-bounded n X h e u) (λ _ _. tt)))
 
-pub make-answer : (n X T wanted : ℕ) (h e u buffer : List ℕ) → Small (makeFile n X T wanted h e u buffer .answer)
+pub make-answer : (n X T wanted : ℕ) (h e u damping buffer : List ℕ) → Small (makeFile n X T wanted h e u damping buffer .answer)
 unfolding makeFile place
-make-answer n X T wanted h e u buffer =
+make-answer n X T wanted h e u damping buffer =
     uncounted-small buffer _ _
     (bounded-test _ shape _ refl (λ _.
-    bounded-then _ _ (made-bounded n X T wanted (rowIn h) (rowIn e) (rowIn u)) (λ _ _.
+    bounded-then _ _ (made-bounded n X T wanted (rowIn h) (rowIn e) (rowIn u) (rowIn damping)) (λ _ _.
     bounded-test _ bufferLength _ refl (λ _.
-    make-bounded n X T wanted (rowIn h) (rowIn e) (rowIn u)))))
+    make-bounded n X T wanted (rowIn h) (rowIn e) (rowIn u) (rowIn damping)))))

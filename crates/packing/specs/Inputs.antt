@@ -13,11 +13,11 @@ use Rattle.rule.specs.Rows.{Row, cell, map, all, same}
 use Rattle.rule.specs.Ranges.{cellsAllowed, mostCells}
 use Rattle.rule.specs.Channel.{Channel, rows, lengths, water}
 use Rattle.rule.specs.Coefficients.{coefficients}
-use Rattle.rule.specs.Refusals.{place, shape, counts, depthValue, heightValue, velocityValue, reducedValue, fluxValue, accelerationValue, pouredValue, depth, timeStep, dominance, complete}
+use Rattle.rule.specs.Refusals.{place, shape, counts, depthValue, heightValue, velocityValue, reducedValue, fluxValue, accelerationValue, dampingValue, pouredValue, depth, timeStep, dominance, complete}
 use Rattle.rule.specs.Checks.{long, deep, timed, wet, pourable, shaped, allowed, checked, isComplete, ready}
 use Rattle.rule.specs.Make.{makeChecked}
 use Rattle.checks.specs.Tests.{both}
-use Rattle.checks.specs.Facts.{LengthsOf, cells-few, long-three}
+use Rattle.checks.specs.Facts.{LengthsOf, cells-few, long-four}
 use Rattle.checks.specs.Allowed.{shape-lengths}
 use Rattle.packing.specs.Small.{Bounded, bounded-require, bounded-then, bounded-test, bounded-each, bounded-levels}
 
@@ -54,8 +54,9 @@ module _ (c : Channel) (poured : List Row) where
       bounded-then _ _ (bounded-each _ (c .v) reducedValue (λ j. refl) (omega (arith, is .v-long))) (λ _ _.
       bounded-then _ _ (bounded-levels (c .N - 1) _ (c .Q) fluxValue (λ j. refl) (omega arith)) (λ _ _.
       bounded-then _ _ (bounded-levels (c .N) _ (c .F) accelerationValue (λ j. refl) few) (λ _ _.
+      bounded-then _ _ (bounded-each _ (c .damping) dampingValue (λ j. refl) (omega (arith, is .damping-long))) (λ _ _.
       bounded-then _ _ (pours-bounded (c .N) poured few pours) (λ _ _.
-      wet-bounded (c .N) (c .X) (c .T) (c .h) (c .e) few))))))))
+      wet-bounded (c .N) (c .X) (c .T) (c .h) (c .e) few)))))))))
 
   pub checked-bounded : Bounded (checked c poured)
   unfolding checked place
@@ -65,15 +66,16 @@ module _ (c : Channel) (poured : List Row) where
   unfolding ready place
   ready-bounded = bounded-then (checked c poured) _ checked-bounded (λ _ _. bounded-require _ complete refl)
 
-pub made-bounded : (n X T wanted : ℕ) (h e u : Row) → Bounded (makeChecked n X T wanted h e u)
+pub made-bounded : (n X T wanted : ℕ) (h e u damping : Row) → Bounded (makeChecked n X T wanted h e u damping)
 unfolding makeChecked place
-made-bounded n X T wanted h e u =
-    bounded-test (cellsAllowed n && long n (h ∷ e ∷ u ∷ [])) shape _ refl (λ p.
-    let k = both (cellsAllowed n) (long n (h ∷ e ∷ u ∷ [])) p in
+made-bounded n X T wanted h e u damping =
+    bounded-test (cellsAllowed n && long n (h ∷ e ∷ u ∷ damping ∷ [])) shape _ refl (λ p.
+    let k = both (cellsAllowed n) (long n (h ∷ e ∷ u ∷ damping ∷ [])) p in
     let few = cells-few n (k .0) .1 in
-    let is = long-three n h e u (k .1) in
+    let is = long-four n h e u damping (k .1) in
     bounded-test _ counts _ refl (λ _.
     bounded-then _ _ (bounded-each _ h depthValue (λ j. refl) (omega (arith, is .0))) (λ _ _.
     bounded-then _ _ (bounded-each _ e heightValue (λ j. refl) (omega (arith, is .1 .0))) (λ _ _.
-    bounded-then _ _ (bounded-each _ u velocityValue (λ j. refl) (omega (arith, is .1 .1))) (λ _ _.
-    wet-bounded n X T h e few)))))
+    bounded-then _ _ (bounded-each _ u velocityValue (λ j. refl) (omega (arith, is .1 .1 .0))) (λ _ _.
+    bounded-then _ _ (bounded-each _ damping dampingValue (λ j. refl) (omega (arith, is .1 .1 .1))) (λ _ _.
+    wet-bounded n X T h e few))))))

@@ -41,8 +41,8 @@ by-small : {p : ℕ} (a : Answer) → Small a → p ≡ packed a → unpacked p 
 by-small a h e = ap unpacked e ∙ unpacked-packed a h
 
 module _ {p : ℕ} where
-  pub make-unpacked : (n X T wanted : ℕ) (h e u buffer : List ℕ) → let a = makeFile n X T wanted h e u buffer .answer in p ≡ packed a → unpacked p ≡ a
-  make-unpacked n X T wanted h e u buffer z = by-small _ (make-answer n X T wanted h e u buffer) z
+  pub make-unpacked : (n X T wanted : ℕ) (h e u damping buffer : List ℕ) → let a = makeFile n X T wanted h e u damping buffer .answer in p ≡ packed a → unpacked p ≡ a
+  make-unpacked n X T wanted h e u damping buffer z = by-small _ (make-answer n X T wanted h e u damping buffer) z
 
   pub check-unpacked : (s : List ℕ) → p ≡ packed (checkFile s) → unpacked p ≡ checkFile s
   check-unpacked s z = by-small _ (check-answer s) z

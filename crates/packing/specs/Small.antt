@@ -1,4 +1,4 @@
--- Refusal numbers: answers small enough for one number, a number to 37, a stage to 10, a place to 256 and a count to a million. Assumes nothing.
+-- Refusal numbers: answers small enough for one number, a number to 38, a stage to 10, a place to 256 and a count to a million. Assumes nothing.
 use Prim.Native.Nat.{ℕ, zero, suc, _*_, _≤_}
 use native.Mathlib.Omega.{arith}
 use mathlib.Core.Path.{_≡_, refl, sym, ap, _∙_, subst}
@@ -16,7 +16,7 @@ use Rattle.places.specs.Lowest.{lowest-most}
 use Rattle.checks.specs.Numbers.{number-within}
 
 pub record Small (a : Answer) : Type 0 where
-  pub number : a .number ≤ 37
+  pub number : a .number ≤ 38
   pub stage : a .stage ≤ 10
   pub place : a .place ≤ mostCells
   pub count : a .count ≤ mostSteps

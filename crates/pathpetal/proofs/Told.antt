@@ -25,9 +25,9 @@ use Rattle.pathpetal.proofs.pathpetal_feed_gauges.Reads as feed-gauges-
 use Rattle.pathpetal.proofs.pathpetal_read_gauges.Kinds as read-gauges-kinds
 use Rattle.pathpetal.proofs.pathpetal_read_gauges.Reads as read-gauges-reads
 
-module _ (κs : Lfts 4) where
-  pub make-told : (a : Dens κs make-kinds.ps) (r : resT make-kinds.r κs .Denot) (x : AtExit (endedOf 4 make-kinds.ps make-kinds.r) κs) → make-reads.Post κs a r x → let b = a .1 .1 .1 .1 in unpacked r ≡ makeFile (a .0) (a .1 .0) (a .1 .1 .0) (a .1 .1 .1 .0) (now (b .0)) (now (b .1 .0)) (now (b .1 .1 .0)) (now (b .1 .1 .1 .0)) .answer
-  make-told a r x p = make-unpacked _ _ _ _ _ _ _ _ (p .0)
+module _ (κs : Lfts 5) where
+  pub make-told : (a : Dens κs make-kinds.ps) (r : resT make-kinds.r κs .Denot) (x : AtExit (endedOf 5 make-kinds.ps make-kinds.r) κs) → make-reads.Post κs a r x → let b = a .1 .1 .1 .1 in unpacked r ≡ makeFile (a .0) (a .1 .0) (a .1 .1 .0) (a .1 .1 .1 .0) (now (b .0)) (now (b .1 .0)) (now (b .1 .1 .0)) (now (b .1 .1 .1 .0)) (now (b .1 .1 .1 .1 .0)) .answer
+  make-told a r x p = make-unpacked _ _ _ _ _ _ _ _ _ (p .0)
 
 module _ (κs : Lfts 2) where
   pub step-told : (a : Dens κs step-kinds.ps) (r : resT step-kinds.r κs .Denot) (x : AtExit (endedOf 2 step-kinds.ps step-kinds.r) κs) → step-reads.Post κs a r x → unpacked r ≡ stepFile (now (a .0)) (now (a .1 .0)) .answer

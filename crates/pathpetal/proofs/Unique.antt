@@ -38,8 +38,8 @@ module _ (κs : Lfts 0) where
   pub one-outcome-rule : (a : Dens κs rule-kinds.ps) (r r′ : resT rule-kinds.r κs .Denot) (x x′ : AtExit (endedOf 0 rule-kinds.ps rule-kinds.r) κs) → rule-reads.Post κs a r x → rule-reads.Post κs a r′ x′ → _≡_ {A = ℕ} r r′
   one-outcome-rule a r r′ x x′ p p′ = p ∙ sym p′
 
-module _ (κs : Lfts 4) where
-  pub one-outcome-make : (a : Dens κs make-kinds.ps) (r r′ : resT make-kinds.r κs .Denot) (x x′ : AtExit (endedOf 4 make-kinds.ps make-kinds.r) κs) → make-reads.Post κs a r x → make-reads.Post κs a r′ x′ → Coincide r r′ (now (x .1 .1 .1 .1 .1 .1 .1 .0)) (now (x′ .1 .1 .1 .1 .1 .1 .1 .0))
+module _ (κs : Lfts 5) where
+  pub one-outcome-make : (a : Dens κs make-kinds.ps) (r r′ : resT make-kinds.r κs .Denot) (x x′ : AtExit (endedOf 5 make-kinds.ps make-kinds.r) κs) → make-reads.Post κs a r x → make-reads.Post κs a r′ x′ → Coincide r r′ (now (x .1 .1 .1 .1 .1 .1 .1 .1 .0)) (now (x′ .1 .1 .1 .1 .1 .1 .1 .1 .0))
   one-outcome-make a r r′ x x′ p p′ = coincide p p′
 
 module _ (κs : Lfts 2) where

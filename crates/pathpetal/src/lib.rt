@@ -23,9 +23,10 @@ pub extern "C" fn pathpetal_make(
     depths: &[u8],
     heights: &[u8],
     velocities: &[u8],
+    dampings: &[u8],
     file: &mut [u8],
 ) -> u64
-    ensures { λ r. ⌜ (r ≡ packed (makeFile cells width time wanted (now (depths .entry)) (now (heights .entry)) (now (velocities .entry)) (now (file .entry)) .answer)) × (now (file .exit) ≡ makeFile cells width time wanted (now (depths .entry)) (now (heights .entry)) (now (velocities .entry)) (now (file .entry)) .left) ⌝ }
+    ensures { λ r. ⌜ (r ≡ packed (makeFile cells width time wanted (now (depths .entry)) (now (heights .entry)) (now (velocities .entry)) (now (dampings .entry)) (now (file .entry)) .answer)) × (now (file .exit) ≡ makeFile cells width time wanted (now (depths .entry)) (now (heights .entry)) (now (velocities .entry)) (now (dampings .entry)) (now (file .entry)) .left) ⌝ }
 {
     packing::pack(make_file::make(
         cells,
@@ -35,6 +36,7 @@ pub extern "C" fn pathpetal_make(
         depths,
         heights,
         velocities,
+        dampings,
         file,
     ))
 }

@@ -8,7 +8,7 @@ use borrow.Author.Tests.{ne-eqb}
 use lib.Dec.{eqb}
 use Rattle.rule.specs.declared.Fault.{Fault}
 use Rattle.rule.specs.Rows.{all, lowest}
-use Rattle.rule.specs.Refusals.{Refusal, depthValue, heightValue, velocityValue, reducedValue, fluxValue, accelerationValue, pouredValue, depth, dominance, number, place, Outcome, refused, done, _>>=_, require, numberOf, placeOf, faultOf}
+use Rattle.rule.specs.Refusals.{Refusal, depthValue, heightValue, velocityValue, reducedValue, fluxValue, accelerationValue, dampingValue, pouredValue, depth, dominance, number, place, Outcome, refused, done, _>>=_, require, numberOf, placeOf, faultOf}
 use Rattle.rule.specs.Checks.{each}
 use Rattle.places.specs.Lowest.{lowest-none, lowest-some}
 
@@ -63,6 +63,10 @@ flux-value = record { numbered = λ j. refl; placed = λ j. refl }
 pub acceleration-value : Numbered 36 accelerationValue
 unfolding number place
 acceleration-value = record { numbered = λ j. refl; placed = λ j. refl }
+
+pub damping-value : Numbered 38 dampingValue
+unfolding number place
+damping-value = record { numbered = λ j. refl; placed = λ j. refl }
 
 pub poured-value : Numbered 37 pouredValue
 unfolding number place

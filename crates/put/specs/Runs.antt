@@ -82,33 +82,34 @@ four-rows n h e u v {d} {d₁} {d₂} {d₃} b w hs es us vs p q r t =
     let three = more-rows two (one-row 4 u d₂ refl r) refl l (omega (arith, w .h-long, w .e-long, us, at 2 (omega arith))) in
     more-rows three (one-row 4 v d₃ refl t) refl l (omega (arith, w .h-long, w .e-long, w .u-long, vs, at 3 (omega arith))) .is
 
-pub two-rows :
-    (n : ℕ) (q f : Row) {d d₁ d₂ : List ℕ} {q-at f-at : ℕ} → Buffer n d → Levels n q f →
-    q-at ≡ startOf edition n 4 → f-at ≡ startOf edition n 5 →
-    d₁ ≡ written d q-at (rowBytes 8 q) → d₂ ≡ written d₁ f-at (rowBytes 8 f) →
-    d₂ ≡ written d (startOf edition n 4) (bodyBytes (8 ∷ 8 ∷ []) (q ∷ f ∷ []))
+pub three-rows :
+    (n : ℕ) (q f damping : Row) {d d₁ d₂ d₃ : List ℕ} {q-at f-at damping-at : ℕ} → Buffer n d → Levels n q f damping →
+    q-at ≡ startOf edition n 4 → f-at ≡ startOf edition n 5 → damping-at ≡ startOf edition n 6 →
+    d₁ ≡ written d q-at (rowBytes 8 q) → d₂ ≡ written d₁ f-at (rowBytes 8 f) → d₃ ≡ written d₂ damping-at (rowBytes 4 damping) →
+    d₃ ≡ written d (startOf edition n 4) (bodyBytes (8 ∷ 8 ∷ 4 ∷ []) (q ∷ f ∷ damping ∷ []))
 unfolding widths lengths span map
-two-rows n q f {d} {d₁} b w qs fs p r =
+three-rows n q f damping {d} {d₁} {d₂} b w qs fs ds p r t =
     let at = start-is edition n in
     let l : startOf edition n 4 ≤ length d = omega (arith, b .sized, stands edition n 4 (omega arith)) in
-    more-rows (one-row 8 q d qs p) (one-row 8 f d₁ refl r) refl l (omega (arith, w .q-long, fs, at 4 (omega arith), at 5 (omega arith))) .is
+    let two = more-rows (one-row 8 q d qs p) (one-row 8 f d₁ refl r) refl l (omega (arith, w .q-long, fs, at 4 (omega arith), at 5 (omega arith))) in
+    more-rows two (one-row 4 damping d₂ refl t) refl l (omega (arith, w .q-long, w .f-long, ds, at 4 (omega arith), at 6 (omega arith))) .is
 
--- the counts, the cells and the levels are the file
-module _ (n X T accepted wanted : ℕ) (h e u v q f : Row) (w : Writable n h e u v q f) where
+-- the counts, the cells, the levels and the damping are the file
+module _ (n X T accepted wanted : ℕ) (h e u v q f damping : Row) (w : Writable n h e u v q f damping) where
   abbrev given : Channel
-  given = channel n X T accepted wanted h e u v q f
+  given = channel n X T accepted wanted h e u v q f damping
 
   long : map length (rows given) ≡ lengths n
   unfolding rows lengths map
   long =
       let k = w .cells in
       let l = w .levels in
-      (λ i. k .h-long i ∷ k .e-long i ∷ k .u-long i ∷ k .v-long i ∷ l .q-long i ∷ l .f-long i ∷ [])
+      (λ i. k .h-long i ∷ k .e-long i ∷ k .u-long i ∷ k .v-long i ∷ l .q-long i ∷ l .f-long i ∷ l .damping-long i ∷ [])
 
   pub file-put :
       (d d₁ d₂ d₃ : List ℕ) → length d ≡ lengthOf edition n → d₁ ≡ written d 0 (headBytes (headOf given)) →
       d₂ ≡ written d₁ (headLength edition) (bodyBytes (4 ∷ 4 ∷ 4 ∷ 4 ∷ []) (h ∷ e ∷ u ∷ v ∷ [])) →
-      d₃ ≡ written d₂ (startOf edition n 4) (bodyBytes (8 ∷ 8 ∷ []) (q ∷ f ∷ [])) → d₃ ≡ fileOf given
+      d₃ ≡ written d₂ (startOf edition n 4) (bodyBytes (8 ∷ 8 ∷ 4 ∷ []) (q ∷ f ∷ damping ∷ [])) → d₃ ≡ fileOf given
   unfolding fileOf rows widths lengths span map
   file-put d d₁ d₂ d₃ room a b c =
       let head : List ℕ = headBytes (headOf given) in
@@ -118,6 +119,6 @@ module _ (n X T accepted wanted : ℕ) (h e u v q f : Row) (w : Writable n h e u
       let k = w .cells in
       let at = start-is edition n 4 (omega arith) in
       let cells : Put d₁ (headLength edition) (4 ∷ 4 ∷ 4 ∷ 4 ∷ []) (h ∷ e ∷ u ∷ v ∷ []) d₂ = record { is = b } in
-      let levels : Put d₂ (startOf edition n 4) (8 ∷ 8 ∷ []) (q ∷ f ∷ []) d₃ = record { is = c } in
+      let levels : Put d₂ (startOf edition n 4) (8 ∷ 8 ∷ 4 ∷ []) (q ∷ f ∷ damping ∷ []) d₃ = record { is = c } in
       let body = more-rows cells levels refl (omega (arith, i, l, same)) (omega (arith, k .h-long, k .e-long, k .u-long, k .v-long, at)) in
       two-runs d d₁ d₃ 0 (headLength edition) head _ (omega arith) a (omega (arith, i)) (body .is) ∙ written-all d (fileOf given) (length-file-of given long ∙ sym room)

@@ -42,13 +42,14 @@ fn put_cells(d: &mut [u8], n: usize, h: &[i64], e: &[i64], u: &[i64], v: &[i64])
     little::write_row4(d, layout::start_of(layout::EDITION, 3, n), v);
 }
 
-// The rows of eight bytes an entry: the levels of flux and of acceleration.
-fn put_levels(d: &mut [u8], n: usize, q: &[i64], f: &[i64])
-    requires { ⌜ Buffer n (now d) × Levels n (now q) (now f) ⌝ }
-    ensures { λ r. ⌜ now (d .exit) ≡ written (now (d .entry)) (startOf edition n 4) (bodyBytes (8 ∷ 8 ∷ []) (now (q .entry) ∷ now (f .entry) ∷ [])) ⌝ }
+// The rows of eight bytes an entry, the levels of flux and of acceleration, and damping, of four.
+fn put_levels(d: &mut [u8], n: usize, q: &[i64], f: &[i64], damping: &[i64])
+    requires { ⌜ Buffer n (now d) × Levels n (now q) (now f) (now damping) ⌝ }
+    ensures { λ r. ⌜ now (d .exit) ≡ written (now (d .entry)) (startOf edition n 4) (bodyBytes (8 ∷ 8 ∷ 4 ∷ []) (now (q .entry) ∷ now (f .entry) ∷ now (damping .entry) ∷ [])) ⌝ }
 {
     little::write_row8(d, layout::start_of(layout::EDITION, 4, n), q);
     little::write_row8(d, layout::start_of(layout::EDITION, 5, n), f);
+    little::write_row4(d, layout::start_of(layout::EDITION, 6, n), damping);
 }
 
 // The file of a channel, in a buffer of its length.
@@ -61,11 +62,12 @@ pub fn put(
     v: &[i64],
     q: &[i64],
     f: &[i64],
+    damping: &[i64],
 )
-    requires { ⌜ (length (now d) ≡ lengthOf edition (c .n)) × Writable (c .n) (now h) (now e) (now u) (now v) (now q) (now f) ⌝ }
-    ensures { λ r. ⌜ now (d .exit) ≡ fileOf (counted c (now (h .entry)) (now (e .entry)) (now (u .entry)) (now (v .entry)) (now (q .entry)) (now (f .entry))) ⌝ }
+    requires { ⌜ (length (now d) ≡ lengthOf edition (c .n)) × Writable (c .n) (now h) (now e) (now u) (now v) (now q) (now f) (now damping) ⌝ }
+    ensures { λ r. ⌜ now (d .exit) ≡ fileOf (counted c (now (h .entry)) (now (e .entry)) (now (u .entry)) (now (v .entry)) (now (q .entry)) (now (f .entry)) (now (damping .entry))) ⌝ }
 {
     put_head(d, c);
     put_cells(d, c.n, h, e, u, v);
-    put_levels(d, c.n, q, f);
+    put_levels(d, c.n, q, f, damping);
 }

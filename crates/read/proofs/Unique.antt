@@ -11,8 +11,8 @@ use Rattle.read.specs.Left.{readOf}
 use Rattle.read.proofs.read.Kinds as kinds
 use Rattle.read.proofs.read.Reads.{Post}
 
-module _ (κs : Lfts 7) (a : Dens κs kinds.ps) (r r′ : resT kinds.r κs .Denot) (y y′ : AtExit (endedOf 7 kinds.ps kinds.r) κs) where
-  -- in the answer with the counts, and in each row that is lent to be filled: the places after the first two of the eight that
+module _ (κs : Lfts 8) (a : Dens κs kinds.ps) (r r′ : resT kinds.r κs .Denot) (y y′ : AtExit (endedOf 8 kinds.ps kinds.r) κs) where
+  -- in the answer with the counts, and in each row that is lent to be filled: the places after the first two of the nine that
   -- read takes
   pub record Coincide : Type 0 where
     pub answer : r ≡ r′
@@ -22,6 +22,7 @@ module _ (κs : Lfts 7) (a : Dens κs kinds.ps) (r r′ : resT kinds.r κs .Deno
     pub v : now (y .1 .1 .1 .1 .1 .0) ≡ now (y′ .1 .1 .1 .1 .1 .0)
     pub q : now (y .1 .1 .1 .1 .1 .1 .0) ≡ now (y′ .1 .1 .1 .1 .1 .1 .0)
     pub f : now (y .1 .1 .1 .1 .1 .1 .1 .0) ≡ now (y′ .1 .1 .1 .1 .1 .1 .1 .0)
+    pub damping : now (y .1 .1 .1 .1 .1 .1 .1 .1 .0) ≡ now (y′ .1 .1 .1 .1 .1 .1 .1 .1 .0)
 
   pub one-outcome : Post κs a r y → Post κs a r′ y′ → Coincide
   one-outcome p p′ =
@@ -34,4 +35,5 @@ module _ (κs : Lfts 7) (a : Dens κs kinds.ps) (r r′ : resT kinds.r κs .Deno
         v = ap (λ (c : Called Channel). c .left .v) same;
         q = ap (λ (c : Called Channel). c .left .Q) same;
         f = ap (λ (c : Called Channel). c .left .F) same;
+        damping = ap (λ (c : Called Channel). c .left .damping) same;
       }

@@ -22,30 +22,30 @@ use Rattle.opened.specs.Opened.{Opened, read-outside}
 use Rattle.opened.specs.Fitting.{Opens}
 
 -- the lent rows have the lengths of a channel of n cells
-unfoldable pub lentFit : Row → Row → Row → Row → Row → Row → ℕ → Bool
-lentFit h e u v Q F = λ n. same (map length (h ∷ e ∷ u ∷ v ∷ Q ∷ F ∷ [])) (lengths n)
+unfoldable pub lentFit : Row → Row → Row → Row → Row → Row → Row → ℕ → Bool
+lentFit h e u v Q F damping = λ n. same (map length (h ∷ e ∷ u ∷ v ∷ Q ∷ F ∷ damping ∷ [])) (lengths n)
 
-pub fit-is : (lent : Channel) → lentFit (lent .h) (lent .e) (lent .u) (lent .v) (lent .Q) (lent .F) ≡ fit lent
+pub fit-is : (lent : Channel) → lentFit (lent .h) (lent .e) (lent .u) (lent .v) (lent .Q) (lent .F) (lent .damping) ≡ fit lent
 unfolding lentFit fit rows
 fit-is lent = refl
 
 -- 1, as the code tests it
-pub lent-shape : (h e u v Q F : Row) (n : ℕ) → cellsAllowed n && same (map length (h ∷ e ∷ u ∷ v ∷ Q ∷ F ∷ [])) (lengths n) ≡ shapePasses (lentFit h e u v Q F) [] n
+pub lent-shape : (h e u v Q F damping : Row) (n : ℕ) → cellsAllowed n && same (map length (h ∷ e ∷ u ∷ v ∷ Q ∷ F ∷ damping ∷ [])) (lengths n) ≡ shapePasses (lentFit h e u v Q F damping) [] n
 unfolding shapePasses lentFit long all
-lent-shape h e u v Q F n = sym (and-true (cellsAllowed n && same (map length (h ∷ e ∷ u ∷ v ∷ Q ∷ F ∷ [])) (lengths n)))
+lent-shape h e u v Q F damping n = sym (and-true (cellsAllowed n && same (map length (h ∷ e ∷ u ∷ v ∷ Q ∷ F ∷ damping ∷ [])) (lengths n)))
 
 pub none-poured : (p : List ℕ) (n : ℕ) → fitsIn false p n ≡ true
 unfolding fitsIn
 none-poured p n = refl
 
 -- lent rows that a reader takes have the lengths of its file
-pub opens-lent : (h e u v Q F : Row) (s : List ℕ) → Opened (lentFit h e u v Q F) [] s → Opens s h e u v Q F
+pub opens-lent : (h e u v Q F damping : Row) (s : List ℕ) → Opened (lentFit h e u v Q F damping) [] s → Opens s h e u v Q F damping
 unfolding lentFit
-opens-lent h e u v Q F s o = record { least = o .least; most = o .most; sized = o .sized; long = lengths-of (countOf s 1) h e u v Q F (o .fitting) }
+opens-lent h e u v Q F damping s o = record { least = o .least; most = o .most; sized = o .sized; long = lengths-of (countOf s 1) h e u v Q F damping (o .fitting) }
 
 -- a reader's answer, and the channel as it leaves it
-abbrev pub leavesAll : Reading → Row → Row → Row → Row → Row → Row → Called Channel
-leavesAll r h e u v Q F = record { answer = r .answer; left = counted (r .counts) h e u v Q F }
+abbrev pub leavesAll : Reading → Row → Row → Row → Row → Row → Row → Row → Called Channel
+leavesAll r h e u v Q F damping = record { answer = r .answer; left = counted (r .counts) h e u v Q F damping }
 
 -- and back
 abbrev pub readOf : Called Channel → Reading
@@ -54,7 +54,7 @@ readOf k = record { answer = k .answer; counts = countsOf (k .left) }
 -- the ways out
 module _ (lent : Channel) (s : List ℕ) where
   abbrev outcome : Outcome Channel
-  outcome = readWith (lentFit (lent .h) (lent .e) (lent .u) (lent .v) (lent .Q) (lent .F)) [] s
+  outcome = readWith (lentFit (lent .h) (lent .e) (lent .u) (lent .v) (lent .Q) (lent .F) (lent .damping)) [] s
 
   call-is : plainly lent outcome ≡ readCall lent s
   unfolding readCall
@@ -64,6 +64,6 @@ module _ (lent : Channel) (s : List ℕ) where
   unfolding plainly
   refused-by r e z = refused-call lent (λ _. 0) (λ c. c) r outcome (read-outside _ [] s) e z ∙ call-is
 
-  pub stored : Opened (lentFit (lent .h) (lent .e) (lent .u) (lent .v) (lent .Q) (lent .F)) [] s → leaves (acceptance 0) (channelOf s) ≡ readCall lent s
+  pub stored : Opened (lentFit (lent .h) (lent .e) (lent .u) (lent .v) (lent .Q) (lent .F) (lent .damping)) [] s → leaves (acceptance 0) (channelOf s) ≡ readCall lent s
   unfolding plainly
   stored o = accepted-call lent (λ _. 0) (λ c. c) outcome (channelOf s) (o .is) ∙ call-is

@@ -17,15 +17,16 @@ fn check_lent(
     v: &[i64],
     q: &[i64],
     f: &[i64],
+    damping: &[i64],
 ) -> rule::Fault
-    ensures { λ r. ⌜ r ≡ faultOf (readWith (lentFit (now (h .entry)) (now (e .entry)) (now (u .entry)) (now (v .entry)) (now (q .entry)) (now (f .entry))) [] (now (s .entry))) ⌝ }
+    ensures { λ r. ⌜ r ≡ faultOf (readWith (lentFit (now (h .entry)) (now (e .entry)) (now (u .entry)) (now (v .entry)) (now (q .entry)) (now (f .entry)) (now (damping .entry))) [] (now (s .entry))) ⌝ }
 {
     let fault = form::head(s);
     if fault.number != 0 {
         return fault;
     }
     let n = little::count_at(s, 4) as usize;
-    if !checks::shaped(n, h, e, u, v, q, f) {
+    if !checks::shaped(n, h, e, u, v, q, f, damping) {
         return rule::Fault {
             number: 1,
             place: 0,
@@ -51,18 +52,19 @@ pub fn read(
     v: &mut [i64],
     q: &mut [i64],
     f: &mut [i64],
+    damping: &mut [i64],
 ) -> Reading
-    ensures { λ r. ⌜ leavesAll r (now (h .exit)) (now (e .exit)) (now (u .exit)) (now (v .exit)) (now (q .exit)) (now (f .exit)) ≡ readCall (counted c (now (h .entry)) (now (e .entry)) (now (u .entry)) (now (v .entry)) (now (q .entry)) (now (f .entry))) (now (s .entry)) ⌝ }
+    ensures { λ r. ⌜ leavesAll r (now (h .exit)) (now (e .exit)) (now (u .exit)) (now (v .exit)) (now (q .exit)) (now (f .exit)) (now (damping .exit)) ≡ readCall (counted c (now (h .entry)) (now (e .entry)) (now (u .entry)) (now (v .entry)) (now (q .entry)) (now (f .entry)) (now (damping .entry))) (now (s .entry)) ⌝ }
     ensures { λ _. ⌜ AreBytes (now (s .entry)) ⌝ }
 {
-    let fault = check_lent(s, h, e, u, v, q, f);
+    let fault = check_lent(s, h, e, u, v, q, f, damping);
     if fault.number != 0 {
         return Reading {
             answer: answers::refused(fault, 0),
             counts: c,
         };
     }
-    let counts = opened::opened(s, h, e, u, v, q, f);
+    let counts = opened::opened(s, h, e, u, v, q, f, damping);
     Reading {
         answer: answers::accepted(0),
         counts,

@@ -19,14 +19,15 @@ fn check_opened(
     v: &mut [i64],
     q: &mut [i64],
     f: &mut [i64],
+    damping: &mut [i64],
     poured: bool,
     w: &[i64],
 ) -> rule::Fault
-    requires { ⌜ Opens (now s) (now h) (now e) (now u) (now v) (now q) (now f) ⌝ }
+    requires { ⌜ Opens (now s) (now h) (now e) (now u) (now v) (now q) (now f) (now damping) ⌝ }
     ensures { λ r. ⌜ r ≡ faultOf (checked (channelOf (now (s .entry))) (pouredRows poured (now (w .entry)))) ⌝ }
 {
-    let c = opened::opened(s, h, e, u, v, q, f);
-    checks::check(c, h, e, u, v, q, f, poured, w)
+    let c = opened::opened(s, h, e, u, v, q, f, damping);
+    checks::check(c, h, e, u, v, q, f, damping, poured, w)
 }
 
 // The input checks of the channel that a file of n cells holds, in rows of its own.
@@ -43,6 +44,7 @@ fn values(s: &[u8], n: usize, poured: bool, p: &[u8]) -> rule::Fault
     let mut v = [0i64; rule::MOST_CELLS];
     let mut q = [0i64; 3 * rule::MOST_CELLS];
     let mut f = [0i64; 3 * rule::MOST_CELLS];
+    let mut damping = [0i64; rule::MOST_CELLS];
     check_opened(
         s,
         &mut h[..n],
@@ -51,6 +53,7 @@ fn values(s: &[u8], n: usize, poured: bool, p: &[u8]) -> rule::Fault
         &mut v[..n],
         &mut q[..faces],
         &mut f[..cells],
+        &mut damping[..n],
         poured,
         &w[..n],
     )

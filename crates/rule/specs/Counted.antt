@@ -6,8 +6,8 @@ use Rattle.rule.specs.Rows.{Row}
 use Rattle.rule.specs.Channel.{Channel, channel}
 use Rattle.rule.specs.Calls.{Called}
 
-abbrev pub counted : Counts → Row → Row → Row → Row → Row → Row → Channel
-counted c h e u v Q F = channel (c .n) (c .x) (c .t) (c .accepted) (c .wanted) h e u v Q F
+abbrev pub counted : Counts → Row → Row → Row → Row → Row → Row → Row → Channel
+counted c h e u v Q F damping = channel (c .n) (c .x) (c .t) (c .accepted) (c .wanted) h e u v Q F damping
 
 -- the counts of a channel
 abbrev pub countsOf : Channel → Counts
@@ -18,8 +18,8 @@ abbrev pub after : Counts → ℕ → Counts
 after c accepted = record { n = c .n; x = c .x; t = c .t; accepted = accepted; wanted = c .wanted }
 
 -- a call's answer, and the channel as it leaves it
-abbrev pub left : Counts → Left → Row → Row → Row → Row → Row → Row → Called Channel
-left c r h e u v Q F = record { answer = r .answer; left = counted (after c (r .accepted)) h e u v Q F }
+abbrev pub left : Counts → Left → Row → Row → Row → Row → Row → Row → Row → Called Channel
+left c r h e u v Q F damping = record { answer = r .answer; left = counted (after c (r .accepted)) h e u v Q F damping }
 
 -- and back
 abbrev pub leftOf : Called Channel → Left

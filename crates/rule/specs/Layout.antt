@@ -11,11 +11,12 @@ use Rattle.rule.specs.Channel.{lengths}
 
 -- the counts before the offsets: edition, N, X, T, accepted, wanted
 unfoldable pub countsIn : ℕ → ℕ
-countsIn edition = cond (eqb edition 1) 6 0
+countsIn edition = cond (eqb edition 1) 6 (cond (eqb edition 2) 6 0)
 
--- the bytes that an entry of each row takes: depth, height, u, V, flux, acceleration
+-- the bytes that an entry of each row takes: depth, height, u, V, flux, acceleration, and since edition 2 damping
 unfoldable pub widths : ℕ → List ℕ
-widths edition = cond (eqb edition 1) (4 ∷ 4 ∷ 4 ∷ 4 ∷ 8 ∷ 8 ∷ []) []
+widths edition =
+    cond (eqb edition 1) (4 ∷ 4 ∷ 4 ∷ 4 ∷ 8 ∷ 8 ∷ []) (cond (eqb edition 2) (4 ∷ 4 ∷ 4 ∷ 4 ∷ 8 ∷ 8 ∷ 4 ∷ []) [])
 
 -- the bytes of the counts and the offsets
 unfoldable pub headLength : ℕ → ℕ
@@ -59,3 +60,20 @@ first-offsets n h =
 pub first-length : (n : ℕ) → 1 ≤ n → lengthOf 1 n ≡ 24 + 64 * n
 unfolding lengthOf span headLength countsIn widths lengths
 first-length n h = omega arith
+
+-- edition 2 in numbers
+pub second-offsets :
+    (n : ℕ) → 1 ≤ n →
+    offsets 2 n ≡ 52 ∷ (52 + 4 * n) ∷ (52 + 8 * n) ∷ (52 + 12 * n) ∷ (52 + 16 * n) ∷ (28 + 40 * n) ∷ (28 + 64 * n) ∷ []
+unfolding offsets starts headLength countsIn widths lengths
+second-offsets n h =
+    let a : 52 + 4 * n + 4 * n ≡ 52 + 8 * n = omega arith in
+    let b : 52 + 4 * n + 4 * n + 4 * n ≡ 52 + 12 * n = omega arith in
+    let c : 52 + 4 * n + 4 * n + 4 * n + 4 * n ≡ 52 + 16 * n = omega arith in
+    let d : 52 + 4 * n + 4 * n + 4 * n + 4 * n + 8 * (3 * (n - 1)) ≡ 28 + 40 * n = omega arith in
+    let e : 52 + 4 * n + 4 * n + 4 * n + 4 * n + 8 * (3 * (n - 1)) + 8 * (3 * n) ≡ 28 + 64 * n = omega arith in
+    (λ i. 52 ∷ (52 + 4 * n) ∷ a i ∷ b i ∷ c i ∷ d i ∷ e i ∷ [])
+
+pub second-length : (n : ℕ) → 1 ≤ n → lengthOf 2 n ≡ 28 + 68 * n
+unfolding lengthOf span headLength countsIn widths lengths
+second-length n h = omega arith

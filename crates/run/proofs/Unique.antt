@@ -46,9 +46,9 @@ coincide k k′ same =
       f = ap (λ (k : Called Channel). k .left .F) same;
     }
 
--- of the seven that run takes
-module _ (κs : Lfts 6) where
-  abbrev pub left : AtExit (endedOf 6 run-kinds.ps run-kinds.r) κs → Lent
+-- of the eight that run takes
+module _ (κs : Lfts 7) where
+  abbrev pub left : AtExit (endedOf 7 run-kinds.ps run-kinds.r) κs → Lent
   left x =
       record {
         e = now (x .1 .1 .0);
@@ -58,13 +58,13 @@ module _ (κs : Lfts 6) where
         f = now (x .1 .1 .1 .1 .1 .1 .0);
       }
 
-  pub one-outcome : (a : Dens κs run-kinds.ps) (r r′ : resT run-kinds.r κs .Denot) (x x′ : AtExit (endedOf 6 run-kinds.ps run-kinds.r) κs) → run-reads.Post κs a r x → run-reads.Post κs a r′ x′ → Coincide r r′ (left x) (left x′)
+  pub one-outcome : (a : Dens κs run-kinds.ps) (r r′ : resT run-kinds.r κs .Denot) (x x′ : AtExit (endedOf 7 run-kinds.ps run-kinds.r) κs) → run-reads.Post κs a r x → run-reads.Post κs a r′ x′ → Coincide r r′ (left x) (left x′)
   one-outcome a r r′ x x′ p p′ = coincide _ _ (p ∙ sym p′)
 
 -- and of those after `most` that run_for takes
-module _ (κs : Lfts 6) where
-  abbrev pub left-for : AtExit (endedOf 6 run-for-kinds.ps run-for-kinds.r) κs → Lent
+module _ (κs : Lfts 7) where
+  abbrev pub left-for : AtExit (endedOf 7 run-for-kinds.ps run-for-kinds.r) κs → Lent
   left-for x = left κs (x .1)
 
-  pub one-outcome-for : (a : Dens κs run-for-kinds.ps) (r r′ : resT run-for-kinds.r κs .Denot) (x x′ : AtExit (endedOf 6 run-for-kinds.ps run-for-kinds.r) κs) → run-for-reads.Post κs a r x → run-for-reads.Post κs a r′ x′ → Coincide r r′ (left-for x) (left-for x′)
+  pub one-outcome-for : (a : Dens κs run-for-kinds.ps) (r r′ : resT run-for-kinds.r κs .Denot) (x x′ : AtExit (endedOf 7 run-for-kinds.ps run-for-kinds.r) κs) → run-for-reads.Post κs a r x → run-for-reads.Post κs a r′ x′ → Coincide r r′ (left-for x) (left-for x′)
   one-outcome-for a r r′ x x′ p p′ = coincide _ _ (p ∙ sym p′)

@@ -21,10 +21,11 @@ pub fn run_for(
     v: &mut [i64],
     q: &mut [i64],
     f: &mut [i64],
+    damping: &[i64],
 ) -> rule::Left
-    ensures { λ r. ⌜ left c r (now (h .entry)) (now (e .exit)) (now (u .exit)) (now (v .exit)) (now (q .exit)) (now (f .exit)) ≡ runForCall most (counted c (now (h .entry)) (now (e .entry)) (now (u .entry)) (now (v .entry)) (now (q .entry)) (now (f .entry))) ⌝ }
+    ensures { λ r. ⌜ left c r (now (h .entry)) (now (e .exit)) (now (u .exit)) (now (v .exit)) (now (q .exit)) (now (f .exit)) (now (damping .entry)) ≡ runForCall most (counted c (now (h .entry)) (now (e .entry)) (now (u .entry)) (now (v .entry)) (now (q .entry)) (now (f .entry)) (now (damping .entry))) ⌝ }
 {
-    let fault = checks::check(c, h, e, u, v, q, f, false, h);
+    let fault = checks::check(c, h, e, u, v, q, f, damping, false, h);
     if fault.number != 0 {
         return rule::Left {
             answer: answers::refused(fault, 0),
@@ -37,7 +38,7 @@ pub fn run_for(
     let mut steps = fewer(most, c.wanted - c.accepted);
     while steps > 0 {
         let nothing = [0i64; rule::MOST_CELLS];
-        let r = step::step(c.after(accepted), h, e, u, v, q, f, &nothing[..n]);
+        let r = step::step(c.after(accepted), h, e, u, v, q, f, damping, &nothing[..n]);
         accepted = r.accepted;
         let a = r.answer;
         if a.number != 0 {

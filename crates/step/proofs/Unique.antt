@@ -11,7 +11,7 @@ use Rattle.rule.specs.Counted.{leftOf}
 use Rattle.step.proofs.step.Kinds as kinds
 use Rattle.step.proofs.step.Reads.{Post}
 
-module _ (κs : Lfts 7) (a : Dens κs kinds.ps) (r r′ : resT kinds.r κs .Denot) (x x′ : AtExit (endedOf 7 kinds.ps kinds.r) κs) where
+module _ (κs : Lfts 8) (a : Dens κs kinds.ps) (r r′ : resT kinds.r κs .Denot) (x x′ : AtExit (endedOf 8 kinds.ps kinds.r) κs) where
   -- in the answer with the count, and in each row that is lent to be changed
   pub record Coincide : Type 0 where
     pub answer : r ≡ r′

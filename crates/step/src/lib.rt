@@ -12,12 +12,13 @@ pub fn step(
     v: &mut [i64],
     q: &mut [i64],
     f: &mut [i64],
+    damping: &[i64],
     s: &[i64],
 ) -> rule::Left
-    ensures { λ r. ⌜ left c r (now (h .entry)) (now (e .exit)) (now (u .exit)) (now (v .exit)) (now (q .exit)) (now (f .exit)) ≡ stepCall (counted c (now (h .entry)) (now (e .entry)) (now (u .entry)) (now (v .entry)) (now (q .entry)) (now (f .entry))) (now (s .entry)) ⌝ }
+    ensures { λ r. ⌜ left c r (now (h .entry)) (now (e .exit)) (now (u .exit)) (now (v .exit)) (now (q .exit)) (now (f .exit)) (now (damping .entry)) ≡ stepCall (counted c (now (h .entry)) (now (e .entry)) (now (u .entry)) (now (v .entry)) (now (q .entry)) (now (f .entry)) (now (damping .entry))) (now (s .entry)) ⌝ }
 {
     let count = c.accepted;
-    let r = attempt::attempt(c, h, e, u, v, q, f, s);
+    let r = attempt::attempt(c, h, e, u, v, q, f, damping, s);
     let answer = r.answer;
     let refusal = answer.number;
     if refusal != 0 {

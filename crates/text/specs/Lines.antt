@@ -116,7 +116,7 @@ line-short {n} {accepted} {wanted} {e} p =
       sum-short e (p .e-small) (p .e-long),
     )
 
-pub refused-short : (k : ℕ) → k ≤ 37 → length (refusedOf k) ≤ 64
+pub refused-short : (k : ℕ) → k ≤ 38 → length (refusedOf k) ≤ 64
 unfolding refusedOf
 refused-short k h = omega (arith, length-count k 10, length-decimal 1 k (omega arith))
 

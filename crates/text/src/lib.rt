@@ -120,7 +120,7 @@ pub fn channel_line(d: &mut [u8], n: u64, accepted: u64, wanted: u64, e: &[i64])
 
 // The line of a refusal.
 pub fn refused_line(d: &mut [u8], number: u64) -> usize
-    requires { ⌜ (64 ≤ length (now d)) × (number ≤ 37) ⌝ }
+    requires { ⌜ (64 ≤ length (now d)) × (number ≤ 38) ⌝ }
     ensures { λ r. ⌜ (r ≡ length (refusedOf number)) × (now (d .exit) ≡ written (now (d .entry)) 0 (refusedOf number)) × (r ≤ 64) ⌝ }
 {
     let first = put_word(d, 0, b"refused ");

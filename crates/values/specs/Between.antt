@@ -10,7 +10,7 @@ use lib.IntN.{ℤ, pos, negsuc, _-ℤ_, +ℤ-idl}
 use lib.Signed.{leZ}
 use Rattle.whole.specs.Tests.{and-true}
 use Rattle.rule.specs.Rows.{Row, lowestAfter, lowest}
-use Rattle.rule.specs.Ranges.{within, depthAllowed, mostDepth}
+use Rattle.rule.specs.Ranges.{within, depthAllowed, mostDepth, dampingAllowed, mostDamping}
 
 abbrev pub between : ℤ → ℤ → ℤ → Bool
 between least most x = leZ least x && leZ x most
@@ -40,3 +40,7 @@ lowest-within most row = same-lowest _ _ (λ x. within-is x most) row
 pub lowest-depths : (h : Row) → lowest (between (pos 1) (pos mostDepth)) h ≡ lowest depthAllowed h
 unfolding depthAllowed
 lowest-depths h = refl
+
+pub lowest-dampings : (damping : Row) → lowest (between (pos 0) (pos mostDamping)) damping ≡ lowest dampingAllowed damping
+unfolding dampingAllowed
+lowest-dampings damping = refl

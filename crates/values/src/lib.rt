@@ -1,11 +1,11 @@
-// "Refusal numbers", 31 to 37: the entries of each row in their range, and the lowest place at fault.
+// "Refusal numbers", 31 to 38: the entries of each row in their range, and the lowest place at fault.
 ghost use mathlib.Core.Path.{_≡_};
 ghost use Prim.Native.Nat.{_+_, _*_, _-_, _≤_, _^_};
 ghost use lib.ListN.{length, take, drop};
 ghost use Rattle.rule.specs.Rows.{all, lowest};
 ghost use Rattle.rule.specs.Ranges as rule;
 ghost use Rattle.rule.specs.Checks as checks;
-ghost use Rattle.rule.specs.Refusals.{faultOf};
+ghost use Rattle.rule.specs.Refusals.{faultOf, dampingValue};
 ghost use Rattle.rows.specs.Firsts.{firsts};
 ghost use Rattle.places.specs.Faults.{orFault};
 ghost use Rattle.values.specs.Between.{between};
@@ -35,32 +35,24 @@ pub fn all_within(row: &[i64], n: usize, most: u64) -> bool
     fine
 }
 
-// A depth is from 1 to 20,000 mm.
-fn depth_allowed(h: i64) -> bool
-    ensures { λ r. ⌜ r ≡ rule.depthAllowed h ⌝ }
-{
-    (1 <= h) & (h <= rule::MOST_DEPTH)
-}
-
-// Each of the first n depths is allowed.
-fn all_depths(h: &[i64], n: usize) -> bool
-    requires { ⌜ n ≤ length (now h) ⌝ }
-    ensures { λ r. ⌜ r ≡ all rule.depthAllowed (firsts n (now (h .entry))) ⌝ }
-{
-    let mut fine = true;
-    let mut j = 0;
-    while j < n {
-        fine = fine & depth_allowed(h[j]);
-        j += 1;
-    }
-    fine
-}
-
 // An entry is from `least` to `most`.
 fn between(x: i64, least: i64, most: i64) -> bool
     ensures { λ r. ⌜ r ≡ between least most x ⌝ }
 {
     (least <= x) & (x <= most)
+}
+
+// Each entry is from `least` to `most`. The loop goes to its end, as that of `all_within` does.
+fn all_between(row: &[i64], least: i64, most: i64) -> bool
+    ensures { λ r. ⌜ r ≡ all (between least most) (now (row .entry)) ⌝ }
+{
+    let mut fine = true;
+    let mut j = 0;
+    while j < row.len() {
+        fine = fine & between(row[j], least, most);
+        j += 1;
+    }
+    fine
 }
 
 // The lowest place, counted from 1, of an entry that is not from `least` to `most`; 0 where each is.
@@ -88,14 +80,14 @@ fn lowest_outside(row: &[i64], most: u64) -> u64
     lowest_not_between(row, 0 - top, top)
 }
 
-// The lowest cell whose depth is not allowed.
-fn lowest_depth(h: &[i64]) -> u64
-    ensures { λ r. ⌜ r ≡ lowest rule.depthAllowed (now (h .entry)) ⌝ }
+// The same as `lowest_not_between`. A row without a fault is only tested, which is quicker.
+fn lowest_beyond(row: &[i64], least: i64, most: i64) -> u64
+    ensures { λ r. ⌜ r ≡ lowest (between least most) (now (row .entry)) ⌝ }
 {
-    if all_depths(h, h.len()) {
+    if all_between(row, least, most) {
         return 0;
     }
-    lowest_not_between(h, 1, rule::MOST_DEPTH)
+    lowest_not_between(row, least, most)
 }
 
 // 31, then 32: depths and heights; or what follows.
@@ -103,7 +95,7 @@ pub fn bed_or(h: &[i64], e: &[i64], rest: rule::Fault) -> rule::Fault
     ensures { λ r. ⌜ r ≡ orFault 31 (lowest rule.depthAllowed (now (h .entry))) (orFault 32 (lowest (rule.within rule.mostHeight) (now (e .entry))) rest) ⌝ }
 {
     let heights = places::or_fault(32, lowest_outside(e, rule::MOST_HEIGHT), rest);
-    places::or_fault(31, lowest_depth(h), heights)
+    places::or_fault(31, lowest_beyond(h, 1, rule::MOST_DEPTH), heights)
 }
 
 // 33: velocities; or what follows.
@@ -148,6 +140,17 @@ pub fn levels_or(n: usize, q: &[i64], f: &[i64], rest: rule::Fault) -> rule::Fau
 {
     let accelerations = level_or(36, f, n, rule::MOST_ACCELERATION, rest);
     level_or(35, q, n - 1, rule::MOST_FLUX, accelerations)
+}
+
+// 38: damping.
+pub fn damping(damping: &[i64]) -> rule::Fault
+    ensures { λ r. ⌜ r ≡ faultOf (checks.each rule.dampingAllowed (now (damping .entry)) dampingValue) ⌝ }
+{
+    let none = rule::Fault {
+        number: 0,
+        place: 0,
+    };
+    places::or_fault(38, lowest_beyond(damping, 0, rule::MOST_DAMPING), none)
 }
 
 // 37: the amounts of a row that is poured.

@@ -8,7 +8,7 @@ use lib.IntN.{pos}
 use lib.ListN.{replicate}
 use Rattle.rule.specs.Rows.{Row}
 use Rattle.rule.specs.Channel.{Channel}
-use Rattle.rule.specs.Refusals.{number, Outcome, refused, done, numberOf, _>>=_, at, shape, counts, depthValue, heightValue, velocityValue, reducedValue, fluxValue, accelerationValue, pouredValue, depth, dominance, pivot, speed, height, flux, complete}
+use Rattle.rule.specs.Refusals.{number, Outcome, refused, done, numberOf, _>>=_, at, shape, counts, depthValue, heightValue, velocityValue, reducedValue, fluxValue, accelerationValue, dampingValue, pouredValue, depth, dominance, pivot, speed, height, flux, complete}
 use Rattle.rule.specs.Flux.{fluxes}
 use Rattle.rule.specs.Solve.{solve}
 use Rattle.rule.specs.Checks.{deep, timed, wet, pourable, allowed, checked, isComplete, ready}
@@ -85,10 +85,11 @@ module _ (c : Channel) (paced : Paced c) where
       meets-then InTime _ _ (meets-each InTime _ (c .v) reducedValue (λ j. refl)) (λ _.
       meets-then InTime _ _ (meets-levels InTime _ _ (c .Q) fluxValue (λ j. refl)) (λ _.
       meets-then InTime _ _ (meets-levels InTime _ _ (c .F) accelerationValue (λ j. refl)) (λ _.
+      meets-then InTime _ _ (meets-each InTime _ (c .damping) dampingValue (λ j. refl)) (λ _.
       meets-then InTime _ _ (pours-timely poured) (λ _.
       meets-then InTime _ _ (deep-timely (c .N) (c .h) (c .e)) (λ _.
       meets-then InTime _ _ pace-timely (λ _.
-      meets-each InTime _ _ dominance (λ j. refl)))))))))))
+      meets-each InTime _ _ dominance (λ j. refl))))))))))))
 
   checked-timely : (poured : List Row) → Refuses (checked c poured)
   unfolding checked number

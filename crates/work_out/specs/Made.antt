@@ -16,7 +16,7 @@ use Rattle.rule.specs.Make.{makeChecked, make, reducedVelocities}
 use Rattle.rows.specs.Firsts.{firsts, firsts-all}
 use Rattle.solve.specs.Solved.{solvedOf, solved-number}
 use Rattle.flux.specs.declared.FaceFluxes.{FaceFluxes}
-use Rattle.dispersion.specs.Asked.{Moving, Ready}
+use Rattle.dispersion.specs.Asked.{Moving, Damped, Ready}
 use Rattle.flux.specs.Faces.{fluxesOf, fluxes-number, fluxes-plain, length-fluxes}
 use Rattle.dispersion.specs.Sizes.{length-accelerations}
 use Rattle.places.specs.Faults.{plain, none}
@@ -81,24 +81,24 @@ pub kept-fluxes : (n : ℕ) (m : Outcome Row) (s : FaceFluxes) → s ≡ fluxesO
 unfolding fluxesOf
 kept-fluxes n = kept-by (λ (s : FaceFluxes). s .number) (λ (s : FaceFluxes). s .q) (fluxesOf n) (n - 1) (fluxes-number n) (λ new. refl)
 
-module _ (n X T wanted : ℕ) (h e u : Row) where
+module _ (n X T wanted : ℕ) (h e u damping : Row) where
   abbrev checks : Outcome (Unit {0})
-  checks = makeChecked n X T wanted h e u
+  checks = makeChecked n X T wanted h e u damping
 
   abbrev pub made : Outcome Channel
-  made = make n X T wanted h e u
+  made = make n X T wanted h e u damping
 
   abbrev pub F : Row
-  F = accelerations n X e u
+  F = accelerations n X e u damping
 
   abbrev after-v : Row → Outcome Channel
-  after-v v = fluxes n X h e u >>= λ Q. done (channel n X T 0 wanted h e u v (filled Q) (filled F))
+  after-v v = fluxes n X h e u >>= λ Q. done (channel n X T 0 wanted h e u v (filled Q) (filled F) damping)
 
   -- what V, Q and F are worked out from
-  pub given : Makeable n X T wanted h e u → Given n X h u
+  pub given : Makeable n X T wanted h e u damping → Given n X h u
   given m = record { bed = bed-of n X T wanted 0 h e u (m .counts) (m .cells); u-long = omega (arith, m .cells .u-long) }
 
-  pub moving : Makeable n X T wanted h e u → Moving n X e u
+  moving : Makeable n X T wanted h e u damping → Moving n X e u
   moving m =
       let c = m .cells in
       record {
@@ -108,19 +108,24 @@ module _ (n X T wanted : ℕ) (h e u : Row) where
         velocities = record { least = c .least; most = c .most; long = omega (arith, c .u-long); small = c .u-small };
       }
 
-  pub ready : Makeable n X T wanted h e u → Ready n X h e u
+  pub damped : Makeable n X T wanted h e u damping → Damped n X e u damping
+  damped m =
+      let c = m .cells in
+      record { moving = moving m; dampings = record { least = c .least; most = c .most; long = omega (arith, m .damped .long); small = m .damped .small } }
+
+  pub ready : Makeable n X T wanted h e u damping → Ready n X h e u
   ready m =
       let c = m .cells in
       record { moving = moving m; depths = record { least = c .least; most = c .most; long = omega (arith, c .h-long); small = c .h-small } }
 
   -- the ways out
   pub stops-checked : (r : Fault) → r ≡ faultOf checks → (r .number ≡ 0 → ⊥) → nothing r ≡ madeOf n made
-  stops-checked r p z = stops n r checks _ p z ∙ ap (madeOf n) (sym (make-is n X T wanted h e u))
+  stops-checked r p z = stops n r checks _ p z ∙ ap (madeOf n) (sym (make-is n X T wanted h e u damping))
 
   module _ (passed : numberOf checks ≡ 0) where
     after-checks : made ≡ (reducedVelocities n X h u >>= after-v)
     unfolding worked
-    after-checks = make-is n X T wanted h e u ∙ after-done checks tt _ (done-of checks passed)
+    after-checks = make-is n X T wanted h e u damping ∙ after-done checks tt _ (done-of checks passed)
 
     pub stops-7 : {r : ℕ} {array : Row} → Kept n (reducedVelocities n X h u) r array → (r ≡ 0 → ⊥) → nothing (plain r) ≡ madeOf n made
     stops-7 {r} k z = stops n (plain r) (reducedVelocities n X h u) after-v (plain-fault r _ (velocities-plain n X h u) (k .number)) z ∙ ap (madeOf n) (sym after-checks)
@@ -140,7 +145,7 @@ module _ (n X T wanted : ℕ) (h e u : Row) where
     pub Q : Row
     pub v-done : reducedVelocities n X h u ≡ done v
     pub Q-done : fluxes n X h e u ≡ done Q
-    pub is : made ≡ done (channel n X T 0 wanted h e u v (filled Q) (filled F))
+    pub is : made ≡ done (channel n X T 0 wanted h e u v (filled Q) (filled F) damping)
 
   abbrev whole : numberOf checks ≡ 0 → (v Q : Row) → reducedVelocities n X h u ≡ done v → fluxes n X h e u ≡ done Q → Whole
   whole passed v Q p q =
@@ -150,7 +155,7 @@ module _ (n X T wanted : ℕ) (h e u : Row) where
   unfolding madeOf
   rows-kept w =
       let q : w .Q ≡ firsts (n - 1) (filled (w .Q)) = sym (newest (n - 1) (w .Q) (length-fluxes n X h e u (w .Q) (w .Q-done))) in
-      let f : F ≡ firsts n (filled F) = sym (newest n F (length-accelerations n X e u)) in
+      let f : F ≡ firsts n (filled F) = sym (newest n F (length-accelerations n X e u damping)) in
       (λ i. rowsOf n (w .v) (q i) (f i)) ∙ ap (madeOf n) (sym (w .is))
 
   pub all-kept :
@@ -164,7 +169,7 @@ module _ (n X T wanted : ℕ) (h e u : Row) where
 
   pub whole-of : numberOf made ≡ 0 → Whole
   whole-of z =
-      let passed = first-done checks _ (sym (ap numberOf (make-is n X T wanted h e u)) ∙ z) in
+      let passed = first-done checks _ (sym (ap numberOf (make-is n X T wanted h e u damping)) ∙ z) in
       let d = result-of (reducedVelocities n X h u) (first-done (reducedVelocities n X h u) after-v (sym (ap numberOf (after-checks passed)) ∙ z)) in
       let g = result-of (fluxes n X h e u) (first-done (fluxes n X h e u) _ (sym (ap numberOf (after-velocities passed (d .result) (d .is))) ∙ z)) in
       whole passed (d .result) (g .result) (d .is) (g .is)

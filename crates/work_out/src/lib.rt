@@ -23,10 +23,10 @@ fn nothing(fault: rule::Fault) -> Made
 }
 
 // What make stores, worked out before anything is stored.
-pub fn work_out(c: rule::Counts, h: &[i64], e: &[i64], u: &[i64]) -> Made
-    ensures { λ r. ⌜ r ≡ madeOf (c .n) (rule.make (c .n) (c .x) (c .t) (c .wanted) (now (h .entry)) (now (e .entry)) (now (u .entry))) ⌝ }
+pub fn work_out(c: rule::Counts, h: &[i64], e: &[i64], u: &[i64], damping: &[i64]) -> Made
+    ensures { λ r. ⌜ r ≡ madeOf (c .n) (rule.make (c .n) (c .x) (c .t) (c .wanted) (now (h .entry)) (now (e .entry)) (now (u .entry)) (now (damping .entry))) ⌝ }
 {
-    let fault = checks::check_made(c, h, e, u);
+    let fault = checks::check_made(c, h, e, u, damping);
     if fault.number != 0 {
         return nothing(fault);
     }
@@ -46,7 +46,7 @@ pub fn work_out(c: rule::Counts, h: &[i64], e: &[i64], u: &[i64]) -> Made
     }
     let v = velocities.v;
     let q = fluxes.q;
-    let f = acceleration::accelerations(c.n, c.x, e, u);
+    let f = acceleration::accelerations(c.n, c.x, e, u, damping);
     Made {
         fault: rule::Fault {
             number: 0,

@@ -13,11 +13,12 @@ pub fn write(
     v: &[i64],
     q: &[i64],
     f: &[i64],
+    damping: &[i64],
     d: &mut [u8],
 ) -> rule::Answer
-    ensures { λ r. ⌜ leavesBytes r (now (d .exit)) ≡ writeCall (counted c (now (h .entry)) (now (e .entry)) (now (u .entry)) (now (v .entry)) (now (q .entry)) (now (f .entry))) (now (d .entry)) ⌝ }
+    ensures { λ r. ⌜ leavesBytes r (now (d .exit)) ≡ writeCall (counted c (now (h .entry)) (now (e .entry)) (now (u .entry)) (now (v .entry)) (now (q .entry)) (now (f .entry)) (now (damping .entry))) (now (d .entry)) ⌝ }
 {
-    let fault = checks::check(c, h, e, u, v, q, f, false, h);
+    let fault = checks::check(c, h, e, u, v, q, f, damping, false, h);
     if fault.number != 0 {
         return answers::refused(fault, 0);
     }
@@ -28,6 +29,6 @@ pub fn write(
         };
         return answers::refused(unfit, 0);
     }
-    put::put(d, c, h, e, u, v, q, f);
+    put::put(d, c, h, e, u, v, q, f, damping);
     answers::accepted(0)
 }

@@ -12,10 +12,10 @@ use Rattle.acceleration.proofs.accelerations.Statement.{statement}
 use Rattle.acceleration.proofs.accelerations.Tie as tie
 
 abbrev Inv-loop : tie.InvT-loop
-Inv-loop n x e u row₀ j₀ row j = (j ≤ n) × Filled (acceleration n x e u) row₀ j row
+Inv-loop n x e u damping row₀ j₀ row j = (j ≤ n) × Filled (acceleration n x e u damping) row₀ j row
 
 abbrev μ-loop : tie.MeasureT-loop
-μ-loop n x e u row₀ j₀ row j = n - j
+μ-loop n x e u damping row₀ j₀ row j = n - j
 
 loop-holds : tie.Need-loop-holds Inv-loop μ-loop
 loop-holds c = (omega arith, filled-start _ _)

@@ -12,10 +12,10 @@ use Rattle.advance.proofs.advance.Statement.{statement}
 use Rattle.advance.proofs.advance.Tie as tie
 
 abbrev Inv-loop : tie.InvT-loop
-Inv-loop c h e v q f s old₀ k₀ old k = (1 ≤ k) × (k ≤ 11) × Going (c .n) (c .x) (c .t) (c .accepted) h e v q f s k old
+Inv-loop c h e v q f damping s old₀ k₀ old k = (1 ≤ k) × (k ≤ 11) × Going (c .n) (c .x) (c .t) (c .accepted) h e v q f damping s k old
 
 abbrev μ-loop : tie.MeasureT-loop
-μ-loop c h e v q f s old₀ k₀ old k = 11 - k
+μ-loop c h e v q f damping s old₀ k₀ old k = 11 - k
 
 -- the function's start and the loop's turn, from the places after them
 abbrev start : tie.In-loop Inv-loop μ-loop → tie.Start Inv-loop μ-loop
@@ -37,12 +37,12 @@ few i = omega (arith, i .loop-test .taken)
 kept : (c : tie.Else2 Inv-loop μ-loop) →
     let l = turn (worked c) .before .loop in
     let s = start (turn (worked c)) in
-    Returned (s .args .c .n) (worked c .stage2 .result) (staged (s .args .c .n) (s .args .c .x) (s .args .c .t) (s .args .c .accepted) (s .args .h .now) (s .args .e .now) (s .args .v .now) (s .args .q .now) (s .args .f .now) (s .args .s .now) true (l .old .q) (l .old .f))
+    Returned (s .args .c .n) (worked c .stage2 .result) (staged (s .args .c .n) (s .args .c .x) (s .args .c .t) (s .args .c .accepted) (s .args .h .now) (s .args .e .now) (s .args .v .now) (s .args .q .now) (s .args .f .now) (s .args .damping .now) (s .args .s .now) true (l .old .q) (l .old .f))
 kept c =
     let i = turn (worked c) in
     let l = i .before .loop in
     let s = start i in
-    corrected-kept (s .args .c .n) (s .args .c .x) (s .args .c .t) (s .args .c .accepted) (s .args .h .now) (s .args .e .now) (s .args .v .now) (s .args .q .now) (s .args .f .now) (s .args .s .now) (s .pre .least) (s .pre .most) (s .pre .narrow) (l .k) (l .inv .0) (few i) (l .old) (l .inv .2) (worked c .stage2 .result) (worked c .stage2 .ensures) (c .if2 .left)
+    corrected-kept (s .args .c .n) (s .args .c .x) (s .args .c .t) (s .args .c .accepted) (s .args .h .now) (s .args .e .now) (s .args .v .now) (s .args .q .now) (s .args .f .now) (s .args .damping .now) (s .args .s .now) (s .pre .least) (s .pre .most) (s .pre .narrow) (s .pre .damping-small) (l .k) (l .inv .0) (few i) (l .old) (l .inv .2) (worked c .stage2 .result) (worked c .stage2 .ensures) (c .if2 .left)
 
 stage-requires : tie.Need-stage-requires Inv-loop μ-loop
 stage-requires c κs = c .pre
@@ -55,15 +55,15 @@ returns c =
     let d = c .before .before .before .before in
     let s = d .before in
     let r : Trial = d .stage .result in
-    subst (λ (k : Answer). Advances (s .args .c .n) (s .args .c .x) (s .args .c .t) (s .args .c .accepted) (s .args .h .now) (s .args .e .now) (s .args .v .now) (s .args .q .now) (s .args .f .now) (s .args .s .now) (record { answer = k; trial = r }))
+    subst (λ (k : Answer). Advances (s .args .c .n) (s .args .c .x) (s .args .c .t) (s .args .c .accepted) (s .args .h .now) (s .args .e .now) (s .args .v .now) (s .args .q .now) (s .args .f .now) (s .args .damping .now) (s .args .s .now) (record { answer = k; trial = r }))
     (sym (c .refused .ensures))
-    (predicted-refused (s .args .c .n) (s .args .c .x) (s .args .c .t) (s .args .c .accepted) (s .args .h .now) (s .args .e .now) (s .args .v .now) (s .args .q .now) (s .args .f .now) (s .args .s .now) (s .pre .least) (s .pre .most) (s .pre .narrow) r (d .stage .ensures) (c .before .if1 .taken))
+    (predicted-refused (s .args .c .n) (s .args .c .x) (s .args .c .t) (s .args .c .accepted) (s .args .h .now) (s .args .e .now) (s .args .v .now) (s .args .q .now) (s .args .f .now) (s .args .damping .now) (s .args .s .now) (s .pre .least) (s .pre .most) (s .pre .narrow) (s .pre .damping-small) r (d .stage .ensures) (c .before .if1 .taken))
 
 loop-holds : tie.Need-loop-holds Inv-loop μ-loop
 loop-holds c =
     let d = c .before .before .before in
     let s = d .before in
-    (omega arith, omega arith, predicted (s .args .c .n) (s .args .c .x) (s .args .c .t) (s .args .c .accepted) (s .args .h .now) (s .args .e .now) (s .args .v .now) (s .args .q .now) (s .args .f .now) (s .args .s .now) (s .pre .least) (s .pre .most) (s .pre .narrow) (d .stage .result) (d .stage .ensures) (c .if1 .left))
+    (omega arith, omega arith, predicted (s .args .c .n) (s .args .c .x) (s .args .c .t) (s .args .c .accepted) (s .args .h .now) (s .args .e .now) (s .args .v .now) (s .args .q .now) (s .args .f .now) (s .args .damping .now) (s .args .s .now) (s .pre .least) (s .pre .most) (s .pre .narrow) (s .pre .damping-small) (d .stage .result) (d .stage .ensures) (c .if1 .left))
 
 slice-aggregate-before-e : tie.Need-slice-aggregate-before-e Inv-loop μ-loop
 slice-aggregate-before-e c = search needs
@@ -93,9 +93,9 @@ returns-2 c =
     let l = i .before .loop in
     let s = start i in
     let r : Trial = d .stage2 .result in
-    subst (λ (k : Answer). Advances (s .args .c .n) (s .args .c .x) (s .args .c .t) (s .args .c .accepted) (s .args .h .now) (s .args .e .now) (s .args .v .now) (s .args .q .now) (s .args .f .now) (s .args .s .now) (record { answer = k; trial = r }))
+    subst (λ (k : Answer). Advances (s .args .c .n) (s .args .c .x) (s .args .c .t) (s .args .c .accepted) (s .args .h .now) (s .args .e .now) (s .args .v .now) (s .args .q .now) (s .args .f .now) (s .args .damping .now) (s .args .s .now) (record { answer = k; trial = r }))
     (sym (c .refused2 .ensures))
-    (corrected-refused (s .args .c .n) (s .args .c .x) (s .args .c .t) (s .args .c .accepted) (s .args .h .now) (s .args .e .now) (s .args .v .now) (s .args .q .now) (s .args .f .now) (s .args .s .now) (s .pre .least) (s .pre .most) (s .pre .narrow) (l .k) (l .inv .0) (few i) (l .old) (l .inv .2) r (d .stage2 .ensures) (c .before .if2 .taken))
+    (corrected-refused (s .args .c .n) (s .args .c .x) (s .args .c .t) (s .args .c .accepted) (s .args .h .now) (s .args .e .now) (s .args .v .now) (s .args .q .now) (s .args .f .now) (s .args .damping .now) (s .args .s .now) (s .pre .least) (s .pre .most) (s .pre .narrow) (s .pre .damping-small) (l .k) (l .inv .0) (few i) (l .old) (l .inv .2) r (d .stage2 .ensures) (c .before .if2 .taken))
 
 slice-aggregate-settled : tie.Need-slice-aggregate-settled Inv-loop μ-loop
 slice-aggregate-settled c = search needs
@@ -119,9 +119,9 @@ returns-3 c =
     let l = i .before .loop in
     let s = start i in
     let r = worked e .stage2 in
-    subst (λ (k : Answer). Advances (s .args .c .n) (s .args .c .x) (s .args .c .t) (s .args .c .accepted) (s .args .h .now) (s .args .e .now) (s .args .v .now) (s .args .q .now) (s .args .f .now) (s .args .s .now) (record { answer = k; trial = r .result }))
+    subst (λ (k : Answer). Advances (s .args .c .n) (s .args .c .x) (s .args .c .t) (s .args .c .accepted) (s .args .h .now) (s .args .e .now) (s .args .v .now) (s .args .q .now) (s .args .f .now) (s .args .damping .now) (s .args .s .now) (record { answer = k; trial = r .result }))
     (sym (c .accepted .ensures))
-    (corrected-settled (s .args .c .n) (s .args .c .x) (s .args .c .t) (s .args .c .accepted) (s .args .h .now) (s .args .e .now) (s .args .v .now) (s .args .q .now) (s .args .f .now) (s .args .s .now) (s .pre .least) (s .pre .most) (s .pre .narrow) (l .k) (l .inv .0) (few i) (l .old) (l .inv .2) (r .result) (r .ensures) (e .if2 .left)
+    (corrected-settled (s .args .c .n) (s .args .c .x) (s .args .c .t) (s .args .c .accepted) (s .args .h .now) (s .args .e .now) (s .args .v .now) (s .args .q .now) (s .args .f .now) (s .args .damping .now) (s .args .s .now) (s .pre .least) (s .pre .most) (s .pre .narrow) (s .pre .damping-small) (l .k) (l .inv .0) (few i) (l .old) (l .inv .2) (r .result) (r .ensures) (e .if2 .left)
     (sym (settled-is (s .args .c .n) (r .result) (l .old)) ∙ sym (c .before .before .settled .ensures) ∙ c .before .if3 .taken))
 
 add-k : tie.Need-add-k Inv-loop μ-loop
@@ -139,7 +139,7 @@ loop-again c =
     let r = worked e .stage2 in (
       omega arith,
       omega (arith, few i),
-      corrected-not (s .args .c .n) (s .args .c .x) (s .args .c .t) (s .args .c .accepted) (s .args .h .now) (s .args .e .now) (s .args .v .now) (s .args .q .now) (s .args .f .now) (s .args .s .now) (s .pre .least) (s .pre .most) (s .pre .narrow) (l .k) (l .inv .0) (few i) (l .old) (l .inv .2) (r .result) (r .ensures) (e .if2 .left)
+      corrected-not (s .args .c .n) (s .args .c .x) (s .args .c .t) (s .args .c .accepted) (s .args .h .now) (s .args .e .now) (s .args .v .now) (s .args .q .now) (s .args .f .now) (s .args .damping .now) (s .args .s .now) (s .pre .least) (s .pre .most) (s .pre .narrow) (s .pre .damping-small) (l .k) (l .inv .0) (few i) (l .old) (l .inv .2) (r .result) (r .ensures) (e .if2 .left)
           (sym (settled-is (s .args .c .n) (r .result) (l .old)) ∙ sym (c .before .settled .ensures) ∙ c .if3 .left),
     )
 
@@ -150,9 +150,9 @@ returns-4 : tie.Need-returns-4 Inv-loop μ-loop
 returns-4 c =
     let l = c .before .before .loop in
     let s = c .before .before .before .before .before .before .before in
-    subst (λ (k : Answer). Advances (s .args .c .n) (s .args .c .x) (s .args .c .t) (s .args .c .accepted) (s .args .h .now) (s .args .e .now) (s .args .v .now) (s .args .q .now) (s .args .f .now) (s .args .s .now) (record { answer = k; trial = l .old }))
+    subst (λ (k : Answer). Advances (s .args .c .n) (s .args .c .x) (s .args .c .t) (s .args .c .accepted) (s .args .h .now) (s .args .e .now) (s .args .v .now) (s .args .q .now) (s .args .f .now) (s .args .damping .now) (s .args .s .now) (record { answer = k; trial = l .old }))
     (sym (c .refused3 .ensures))
-    (unsettled (s .args .c .n) (s .args .c .x) (s .args .c .t) (s .args .c .accepted) (s .args .h .now) (s .args .e .now) (s .args .v .now) (s .args .q .now) (s .args .f .now) (s .args .s .now) (l .k) (l .old) (c .before .loop-test .left) (l .inv .2))
+    (unsettled (s .args .c .n) (s .args .c .x) (s .args .c .t) (s .args .c .accepted) (s .args .h .now) (s .args .e .now) (s .args .v .now) (s .args .q .now) (s .args .f .now) (s .args .damping .now) (s .args .s .now) (l .k) (l .old) (c .before .loop-test .left) (l .inv .2))
 
 pub advance-spec : {M : Type 1} → statement M
 advance-spec =

@@ -17,7 +17,7 @@ use Rattle.attempt.proofs.attempt.Tie as tie
 
 abbrev lent : tie.Start → Channel
 lent s =
-    counted (s .args .c) (s .args .h .now) (s .args .e .now) (s .args .u .now) (s .args .v .now) (s .args .q .now) (s .args .f .now)
+    counted (s .args .c) (s .args .h .now) (s .args .e .now) (s .args .u .now) (s .args .v .now) (s .args .q .now) (s .args .f .now) (s .args .damping .now)
 
 abbrev poured : tie.Start → Row
 poured s = s .args .s .now

@@ -22,7 +22,7 @@ use Rattle.filter.proofs.filter.Tie as tie
 abbrev lent : tie.After-ready → Channel
 lent c =
     let a = c .before .before .before .before .before .before .args in
-    counted (a .c) (a .h .now) (a .e .now) (a .u .now) (a .v .now) (a .q .now) (a .f .now)
+    counted (a .c) (a .h .now) (a .e .now) (a .u .now) (a .v .now) (a .q .now) (a .f .now) (a .damping .now)
 
 -- past the checks of the input
 passed : (c : tie.Else1) → numberOf (ready (lent (c .before .before)) []) ≡ 0

@@ -14,7 +14,7 @@ use Rattle.filter.proofs.ready.Tie as tie
 abbrev lent : tie.After-check → Channel
 lent c =
     let a = c .before .args in
-    counted (a .c) (a .h .now) (a .e .now) (a .u .now) (a .v .now) (a .q .now) (a .f .now)
+    counted (a .c) (a .h .now) (a .e .now) (a .u .now) (a .v .now) (a .q .now) (a .f .now) (a .damping .now)
 
 passed : (c : tie.Else1) → numberOf (checked (lent (c .before .before)) []) ≡ 0
 passed c = sym (numbered (c .before .before .check .ensures)) ∙ c .if1 .left

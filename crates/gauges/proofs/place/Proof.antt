@@ -15,7 +15,7 @@ use Rattle.gauges.proofs.place.Tie as tie
 
 -- the channel in the lent rows
 abbrev channel : tie.Start → Channel
-channel s = let a = s .args in counted (a .c) (a .h .now) (a .e .now) (a .u .now) (a .v .now) (a .q .now) (a .f .now)
+channel s = let a = s .args in counted (a .c) (a .h .now) (a .e .now) (a .u .now) (a .v .now) (a .q .now) (a .f .now) (a .damping .now)
 
 -- past its own refusals
 passed : (c : tie.Else1) → numberOf (checked (channel (c .before .before .before .before)) []) ≡ 0

@@ -79,25 +79,31 @@ array-borrow-prefix-f c = search needs
 slice-aggregate-walk-rows-6 : tie.Need-slice-aggregate-walk-rows-6
 slice-aggregate-walk-rows-6 c = sym (length-take-le _ _ (omega arith))
 
-array-share-prefix-s : tie.Need-array-share-prefix-s
-array-share-prefix-s c = search needs
+array-borrow-prefix-damping : tie.Need-array-borrow-prefix-damping
+array-borrow-prefix-damping c = search needs
 
 slice-aggregate-walk-rows-7 : tie.Need-slice-aggregate-walk-rows-7
 slice-aggregate-walk-rows-7 c = sym (length-take-le _ _ (omega arith))
 
+array-share-prefix-s : tie.Need-array-share-prefix-s
+array-share-prefix-s c = search needs
+
+slice-aggregate-walk-rows-8 : tie.Need-slice-aggregate-walk-rows-8
+slice-aggregate-walk-rows-8 c = sym (length-take-le _ _ (omega arith))
+
 walk-rows-requires : tie.Need-walk-rows-requires
 walk-rows-requires c κs =
-    let s = start (c .before .before .before .before .before .before .before .before) in
+    let s = start (c .before .before .before .before .before .before .before .before .before) in
     let w = s .pre in
-    (opens-parts (s .args .file .now) (s .args .n) _ _ _ _ _ _ (w .cells) (w .least) (w .most) (w .sized) refl refl refl refl refl refl, w .passing)
+    (opens-parts (s .args .file .now) (s .args .n) _ _ _ _ _ _ _ (w .cells) (w .least) (w .most) (w .sized) refl refl refl refl refl refl refl, w .passing)
 
 same-length : tie.Need-same-length
 same-length c = search needs
 
 returns : tie.Need-returns
 returns c =
-    let k = c .before .before .before .before .before .before .before .before in
-    let p = k .before .before .before .before .before .before .before .before .before in
+    let k = c .before .before .before .before .before .before .before .before .before in
+    let p = k .before .before .before .before .before .before .before .before .before .before in
     let a = start p .args in
     k .walk-rows .ensures ∙ ap filed (same-poured (a .call) _ (rowIn (a .poured .now)) (channelOf (a .file .now)) (row p))
 
@@ -122,8 +128,10 @@ in-arrays-spec =
     slice-aggregate-walk-rows-5
     array-borrow-prefix-f
     slice-aggregate-walk-rows-6
-    array-share-prefix-s
+    array-borrow-prefix-damping
     slice-aggregate-walk-rows-7
+    array-share-prefix-s
+    slice-aggregate-walk-rows-8
     walk-rows-requires
     same-length
     returns)

@@ -12,13 +12,13 @@ use Rattle.in_arrays.proofs.walk_rows.Tie as tie
 
 -- from the call to where the file is opened, and from there to the start
 abbrev opening : tie.After-called → tie.After-opened
-opening c = c .before .before .before .before .before .before .before .before .before .before .before .before .before
+opening c = c .before .before .before .before .before .before .before .before .before .before .before .before .before .before .before
 
 abbrev called-at : tie.After-result → tie.After-called
-called-at c = c .before .before .before .before .before .before .before .before .before .before .before .before .before .before .before .before .before
+called-at c = c .before .before .before .before .before .before .before .before .before .before .before .before .before .before .before .before .before .before
 
 abbrev start : tie.After-opened → tie.Start
-start c = c .before .before .before .before .before .before .before .before .before
+start c = c .before .before .before .before .before .before .before .before .before .before
 
 opened-requires : tie.Need-opened-requires
 opened-requires c κs = search needs
@@ -31,8 +31,8 @@ after-requires c κs = search needs
 
 put-requires : tie.Need-put-requires
 put-requires c κs =
-    let after = c .before .before .before .before .before .before .after .ensures in
-    let k = c .before .before .before .before .before .before .before .before .before .before .before .before .before in
+    let after = c .before .before .before .before .before .before .before .after .ensures in
+    let k = c .before .before .before .before .before .before .before .before .before .before .before .before .before .before in
     let o = opening k in
     let a = start o .args in
     let w = start o .pre in
@@ -73,11 +73,14 @@ same-length-7 c =
     let k = called-at c in
     k .called .kept .1 .1 .1 .1 .1 .1 .1 .0 ∙ opening k .opened .kept .1 .1 .1 .1 .1 .1 .0
 
+same-length-8 : tie.Need-same-length-8
+same-length-8 c = opening (called-at c) .opened .kept .1 .1 .1 .1 .1 .1 .1 .0
+
 returns : tie.Need-returns
 returns c =
     let p = c .before .before .before in
-    let after = p .before .before .before .before .before .before .before .after .ensures in
-    let k = p .before .before .before .before .before .before .before .before .before .before .before .before .before .before in
+    let after = p .before .before .before .before .before .before .before .before .after .ensures in
+    let k = p .before .before .before .before .before .before .before .before .before .before .before .before .before .before .before in
     let o = opening k in
     let a = start o .args in
     put-leaves (k .called .ensures ∙ ap (callOf (a .call) (a .s .now)) (o .opened .ensures)) (rw after at (p .put .ensures))
@@ -97,4 +100,5 @@ walk-rows-spec =
     same-length-5
     same-length-6
     same-length-7
+    same-length-8
     returns)

@@ -4,7 +4,7 @@ use native.Mathlib.Nat.{mul-le-mul}
 use native.Mathlib.Omega.{arith}
 use borrow.Author.Needs.{needs}
 use Rattle.rule.specs.Layout.{headLength}
-use Rattle.layout.specs.Places.{before-5, before-6, before-cells}
+use Rattle.layout.specs.Places.{before-5, before-6, before-7, before-cells}
 use Rattle.layout.proofs.place.Statement.{statement}
 use Rattle.layout.proofs.place.Tie as tie
 
@@ -48,11 +48,20 @@ sub-result-2 c = search needs
 mul-result-3 : tie.Need-mul-result-3
 mul-result-3 c = search needs
 
-mul-result-4 : tie.Need-mul-result-4
-mul-result-4 c = let f = few c in search needs
-
 add-result-3 : tie.Need-add-result-3
-add-result-3 c = let f = few c in search needs
+add-result-3 c = search needs
+
+sub-result-3 : tie.Need-sub-result-3
+sub-result-3 c = search needs
+
+mul-result-4 : tie.Need-mul-result-4
+mul-result-4 c = search needs
+
+mul-result-5 : tie.Need-mul-result-5
+mul-result-5 c = let f = few c in search needs
+
+add-result-4 : tie.Need-add-result-4
+add-result-4 c = let f = few c in search needs
 
 returns : tie.Need-returns
 unfolding headLength
@@ -78,8 +87,17 @@ returns-3 c =
     let s = c .before .before .before in
     let r = c .before .rows-in .ensures in
     let k = c .before .before .counts-in .ensures in
+    let b = before-7 (s .args .edition) (s .args .n) (s .pre .1 .0) (s .args .i) (c .match .keys3) (s .pre .0) in
+    omega (arith, r, k, b, s .pre)
+
+returns-4 : tie.Need-returns-4
+unfolding headLength
+returns-4 c =
+    let s = c .before .before .before in
+    let r = c .before .rows-in .ensures in
+    let k = c .before .before .counts-in .ensures in
     let not = c .match .rest in
-    let b = before-cells (s .args .edition) (s .args .n) (s .pre .1 .0) (s .args .i) (not .0 .1) (not .1) (s .pre .0) in
+    let b = before-cells (s .args .edition) (s .args .n) (s .pre .1 .0) (s .args .i) (not .0 .0 .1) (not .0 .1) (not .1) (s .pre .0) in
     omega (arith, r, k, b, s .pre)
 
 pub place-spec : {M : Type 1} → statement M
@@ -97,8 +115,12 @@ place-spec =
     add-result-2
     sub-result-2
     mul-result-3
-    mul-result-4
     add-result-3
+    sub-result-3
+    mul-result-4
+    mul-result-5
+    add-result-4
     returns
     returns-2
-    returns-3)
+    returns-3
+    returns-4)

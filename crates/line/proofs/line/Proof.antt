@@ -1,4 +1,4 @@
--- `line::line` meets its contract. The reader's number is at most 37, so outside 1 to 37 it is 0. Assumes nothing.
+-- `line::line` meets its contract. The reader's number is at most 38, so outside 1 to 38 it is 0. Assumes nothing.
 use mathlib.Core.Path.{_≡_, ap, _∙_}
 use mathlib.Core.Logic.{⊎-elim}
 use native.Mathlib.Omega.{arith}

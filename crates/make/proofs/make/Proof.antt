@@ -22,7 +22,7 @@ use Rattle.make.proofs.make.Tie as tie
 abbrev lent : tie.After-shaped → Channel
 lent c =
     let a = c .before .before .before .before .args in
-    counted (a .c) (a .h .now) (a .e .now) (a .u .now) (a .v .now) (a .q .now) (a .f .now)
+    counted (a .c) (a .h .now) (a .e .now) (a .u .now) (a .v .now) (a .q .now) (a .f .now) (a .damping .now)
 
 shaped-is : (c : tie.After-shaped) → c .shaped .result ≡ cellsAllowed (lent c .N) && fit (lent c) (lent c .N)
 unfolding fit rows
@@ -37,7 +37,7 @@ cells c = cells-few (lent (c .before) .N) (tests c .0)
 
 long : (c : tie.Else1) → LengthsOf (lent (c .before))
 unfolding fit rows
-long c = lengths-of _ _ _ _ _ _ _ (tests c .1)
+long c = lengths-of _ _ _ _ _ _ _ _ (tests c .1)
 
 -- past the work, from where the rows are about to be stored
 abbrev worked : tie.After-struct-known2 → tie.After-work-out

@@ -20,7 +20,7 @@ returns c =
     let m = k .before in
     let a = m .before .args in
     c .first-of .ensures
-    ∙ tested-is (a .c .n) (a .c .x) (a .c .t) (a .c .wanted) (a .h .now) (a .e .now) (a .u .now) (a .room) (m .check-made .result) (k .check-buffer .result) (m .check-made .ensures) (k .check-buffer .ensures)
+    ∙ tested-is (a .c .n) (a .c .x) (a .c .t) (a .c .wanted) (a .h .now) (a .e .now) (a .u .now) (a .damping .now) (a .room) (m .check-made .result) (k .check-buffer .result) (m .check-made .ensures) (k .check-buffer .ensures)
 
 pub check-spec : {M : Type 1} → statement M
 check-spec = tie.close (tie.spec check-made-requires check-buffer-requires first-of-requires returns)

@@ -11,7 +11,7 @@ use Rattle.make_checks.proofs.shape_passes.Statement.{statement}
 use Rattle.make_checks.proofs.shape_passes.Tie as tie
 
 abbrev start : tie.Else1 → tie.Start
-start c = c .before .before .before .before .before
+start c = c .before .before .before .before .before .before
 
 passed : (c : tie.Else1) → cellsAllowed (start c .args .n) ≡ true
 passed c = sym (c .before .cells-allowed .ensures) ∙ not-false _ (c .if1 .left)

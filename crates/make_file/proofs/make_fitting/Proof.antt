@@ -62,6 +62,7 @@ make-in-requires c κs =
         v-long = length-take-le _ (v .cells-room .result) (omega arith);
         Q-long = length-take-le _ (q .levels-room .result) (omega arith);
         F-long = length-take-le _ (f .levels-room2 .result) (omega arith);
+        damping-long = p .damping-long;
       },
     )
 

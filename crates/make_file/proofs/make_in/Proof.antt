@@ -18,14 +18,14 @@ buffer c = start c .args .file .now
 abbrev lent : tie.After-make → Channel
 lent c =
     let a = start c .args in
-    counted (a .c) (a .h .now) (a .e .now) (a .u .now) (a .v .now) (a .q .now) (a .f .now)
+    counted (a .c) (a .h .now) (a .e .now) (a .u .now) (a .v .now) (a .q .now) (a .f .now) (a .damping .now)
 
 -- the channel that it leaves
 abbrev left : tie.After-make → Channel
 left c =
     let a = start c .args in
     let l = c .make .last in
-    counted (after (a .c) (c .make .result .accepted)) (a .h .now) (a .e .now) (a .u .now) (l .1 .1 .1 .1 .0) (l .1 .1 .1 .1 .1 .0) (l .1 .1 .1 .1 .1 .1 .0)
+    counted (after (a .c) (c .make .result .accepted)) (a .h .now) (a .e .now) (a .u .now) (l .1 .1 .1 .1 .0) (l .1 .1 .1 .1 .1 .0) (l .1 .1 .1 .1 .1 .1 .0) (a .damping .now)
 
 make-requires : tie.Need-make-requires
 make-requires c κs = search needs

@@ -16,7 +16,7 @@ keep-cells-requires c κs = cells-fit (c .before .before .before .before .before
 
 keep-levels-requires : tie.Need-keep-levels-requires
 keep-levels-requires c κs =
-    let k = c .before .before .before .before .before .before .before .before .before .before .before in
+    let k = c .before .before .before .before .before .before .before .before .before .before .before .before in
     let s = k .before .before in
     levels-fit (s .pre) _ (ap (λ (r : Counts). r .n) (k .counts .ensures) ∙ cells-is (s .args .s .now))
 
@@ -38,14 +38,17 @@ same-length-5 c = search needs
 same-length-6 : tie.Need-same-length-6
 same-length-6 c = search needs
 
+same-length-7 : tie.Need-same-length-7
+same-length-7 c = search needs
+
 returns : tie.Need-returns
 returns c =
-    let l = c .before .before in
-    let r = l .before .before .before .before .before .before .before in
+    let l = c .before .before .before in
+    let r = l .before .before .before .before .before .before .before .before in
     let p = r .before .before .before .before .before .counts .ensures in
     let q = r .keep-cells .ensures in
     let t = l .keep-levels .ensures in
-    (λ i. counted (p i) (q .0 i) (q .1 i) (q .2 i) (q .3 i) (t .0 i) (t .1 i))
+    (λ i. counted (p i) (q .0 i) (q .1 i) (q .2 i) (q .3 i) (t .0 i) (t .1 i) (t .2 i))
 
 pub opened-spec : {M : Type 1} → statement M
 opened-spec =
@@ -60,4 +63,5 @@ opened-spec =
     same-length-4
     same-length-5
     same-length-6
+    same-length-7
     returns)

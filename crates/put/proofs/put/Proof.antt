@@ -23,7 +23,7 @@ returns c =
     let z = a .before .before .before .before in
     let s = z .before .before .before .args in
     let p = z .before .before .before .pre in
-    file-put (s .c .n) (s .c .x) (s .c .t) (s .c .accepted) (s .c .wanted) (s .h .now) (s .e .now) (s .u .now) (s .v .now) (s .q .now) (s .f .now) (p .1) _ _ _ _ (p .0) (z .put-head .ensures) (a .put-cells .ensures) (b .put-levels .ensures)
+    file-put (s .c .n) (s .c .x) (s .c .t) (s .c .accepted) (s .c .wanted) (s .h .now) (s .e .now) (s .u .now) (s .v .now) (s .q .now) (s .f .now) (s .damping .now) (p .1) _ _ _ _ (p .0) (z .put-head .ensures) (a .put-cells .ensures) (b .put-levels .ensures)
 
 pub put-spec : {M : Type 1} → statement M
 put-spec =

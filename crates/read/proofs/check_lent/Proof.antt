@@ -20,7 +20,7 @@ use Rattle.read.proofs.check_lent.Tie as tie
 
 -- whether the lent rows fit
 abbrev fits : tie.Start → ℕ → Bool
-fits s = let a = s .args in lentFit (a .h .now) (a .e .now) (a .u .now) (a .v .now) (a .q .now) (a .f .now)
+fits s = let a = s .args in lentFit (a .h .now) (a .e .now) (a .u .now) (a .v .now) (a .q .now) (a .f .now) (a .damping .now)
 
 -- past the head
 abbrev start : tie.Else1 → tie.Start
@@ -41,7 +41,7 @@ shaped-is : (c : tie.After-shaped) → c .shaped .result ≡ shapePasses (fits (
 shaped-is c =
     let a = begin c .args in
     c .shaped .ensures
-    ∙ lent-shape (a .h .now) (a .e .now) (a .u .now) (a .v .now) (a .q .now) (a .f .now) (c .before .count-at .result)
+    ∙ lent-shape (a .h .now) (a .e .now) (a .u .now) (a .v .now) (a .q .now) (a .f .now) (a .damping .now) (c .before .count-at .result)
     ∙ ap (shapePasses (fits (begin c)) []) (sym (cells-is c))
 
 cells-fit : (c : tie.Else2) → cellsAllowed (c .before .before .count-at .result) ≡ true

@@ -31,10 +31,13 @@ same-length-5 c = search needs
 same-length-6 : tie.Need-same-length-6
 same-length-6 c = search needs
 
+same-length-7 : tie.Need-same-length-7
+same-length-7 c = search needs
+
 returns : tie.Need-returns
 returns c =
-    let o = c .before .before .before .before .before .before .before .before .before .before .before .before .before in
-    let a = o .before .before .before .before .before .before .before .before .args in
+    let o = c .before .before .before .before .before .before .before .before .before .before .before .before .before .before .before in
+    let a = o .before .before .before .before .before .before .before .before .before .args in
     c .check .ensures ∙ ap (λ d. faultOf (checked d (pouredRows (a .poured) (a .w .now)))) (o .opened .ensures)
 
 pub check-opened-spec : {M : Type 1} → statement M
@@ -49,4 +52,5 @@ check-opened-spec =
     same-length-4
     same-length-5
     same-length-6
+    same-length-7
     returns)

@@ -27,7 +27,7 @@ same-length-5 c = search needs
 returns : tie.Need-returns
 returns c =
     let s = c .before .before .before .before .before .before .before .before .before .before .before in
-    c .before .before .before .before .before .run-for .ensures ∙ run-is (counted (s .args .c) (s .args .h .now) (s .args .e .now) (s .args .u .now) (s .args .v .now) (s .args .q .now) (s .args .f .now))
+    c .before .before .before .before .before .run-for .ensures ∙ run-is (counted (s .args .c) (s .args .h .now) (s .args .e .now) (s .args .u .now) (s .args .v .now) (s .args .q .now) (s .args .f .now) (s .args .damping .now))
 
 pub run-spec : {M : Type 1} → statement M
 run-spec =

@@ -18,17 +18,17 @@ use Rattle.run_for.proofs.run_for.Statement.{statement}
 use Rattle.run_for.proofs.run_for.Tie as tie
 
 abbrev Inv-loop : tie.InvT-loop
-Inv-loop most k h e₀ u₀ v₀ q₀ f₀ n accepted₀ count₀ steps₀ e u v q f accepted count steps =
-    Running most (counted k h e₀ u₀ v₀ q₀ f₀) accepted e u v q f count steps
+Inv-loop most k h e₀ u₀ v₀ q₀ f₀ damping n accepted₀ count₀ steps₀ e u v q f accepted count steps =
+    Running most (counted k h e₀ u₀ v₀ q₀ f₀ damping) accepted e u v q f count steps
 
 abbrev μ-loop : tie.MeasureT-loop
-μ-loop most k h e₀ u₀ v₀ q₀ f₀ n accepted₀ count₀ steps₀ e u v q f accepted count steps = steps
+μ-loop most k h e₀ u₀ v₀ q₀ f₀ damping n accepted₀ count₀ steps₀ e u v q f accepted count steps = steps
 
 -- the channel that a run was lent, after its checks
 abbrev lent : tie.After-check Inv-loop μ-loop → Channel
 lent c =
     let s = c .before .before .before .before .before .before in
-    counted (s .args .c) (s .args .h .now) (s .args .e .now) (s .args .u .now) (s .args .v .now) (s .args .q .now) (s .args .f .now)
+    counted (s .args .c) (s .args .h .now) (s .args .e .now) (s .args .u .now) (s .args .v .now) (s .args .q .now) (s .args .f .now) (s .args .damping .now)
 
 abbrev most : tie.After-check Inv-loop μ-loop → ℕ
 most c = c .before .before .before .before .before .before .args .most

@@ -9,7 +9,7 @@ use Rattle.step.proofs.step.Tie as tie
 
 abbrev lent : tie.Start → Channel
 lent s =
-    counted (s .args .c) (s .args .h .now) (s .args .e .now) (s .args .u .now) (s .args .v .now) (s .args .q .now) (s .args .f .now)
+    counted (s .args .c) (s .args .h .now) (s .args .e .now) (s .args .u .now) (s .args .v .now) (s .args .q .now) (s .args .f .now) (s .args .damping .now)
 
 -- what the attempt came to
 attempted : (c : tie.After-attempt) → Attempted (lent (c .before .before .before .before .before .before)) (c .before .before .before .before .before .before .args .s .now) (c .attempt .result)

@@ -1,7 +1,8 @@
 -- `values::bed_or` meets its contract. Assumes nothing.
-use mathlib.Core.Path.{refl}
+use mathlib.Core.Path.{refl, _∙_}
 use borrow.Author.Needs.{needs}
 use Rattle.places.specs.Faults.{fault-then}
+use Rattle.values.specs.Between.{lowest-depths}
 use Rattle.values.proofs.bed_or.Statement.{statement}
 use Rattle.values.proofs.bed_or.Tie as tie
 
@@ -11,8 +12,8 @@ lowest-outside-requires c κs = search needs
 or-fault-requires : tie.Need-or-fault-requires
 or-fault-requires c κs = search needs
 
-lowest-depth-requires : tie.Need-lowest-depth-requires
-lowest-depth-requires c κs = search needs
+lowest-beyond-requires : tie.Need-lowest-beyond-requires
+lowest-beyond-requires c κs = search needs
 
 or-fault-requires-2 : tie.Need-or-fault-requires-2
 or-fault-requires-2 c κs = search needs
@@ -21,7 +22,7 @@ returns : tie.Need-returns
 returns c =
     let h = c .before in
     let e = h .before in
-    fault-then 31 (c .or-fault2 .ensures) (h .lowest-depth .ensures)
+    fault-then 31 (c .or-fault2 .ensures) (h .lowest-beyond .ensures ∙ lowest-depths (e .before .before .args .h .now))
     (fault-then 32 (e .or-fault .ensures) (e .before .lowest-outside .ensures) refl)
 
 pub bed-or-spec : {M : Type 1} → statement M
@@ -30,6 +31,6 @@ bed-or-spec =
     (tie.spec
     lowest-outside-requires
     or-fault-requires
-    lowest-depth-requires
+    lowest-beyond-requires
     or-fault-requires-2
     returns)

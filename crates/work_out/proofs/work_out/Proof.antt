@@ -9,13 +9,13 @@ use Rattle.rule.specs.Make.{reducedVelocities}
 use Rattle.rule.specs.Make.{makeChecked}
 use Rattle.checks.specs.Numbers.{numbered}
 use Rattle.checks.specs.Made.{Makeable, makeable-of}
-use Rattle.work_out.specs.Made.{Kept, kept-velocities, kept-fluxes, given, moving, ready, stops-checked, stops-7, stops-9, all-kept}
+use Rattle.work_out.specs.Made.{Kept, kept-velocities, kept-fluxes, given, damped, ready, stops-checked, stops-7, stops-9, all-kept}
 use Rattle.work_out.proofs.work_out.Statement.{statement}
 use Rattle.work_out.proofs.work_out.Tie as tie
 
 -- the rule's checks, and its V and Q
 abbrev checked : tie.Start → Outcome (Unit {0})
-checked s = let a = s .args in makeChecked (a .c .n) (a .c .x) (a .c .t) (a .c .wanted) (a .h .now) (a .e .now) (a .u .now)
+checked s = let a = s .args in makeChecked (a .c .n) (a .c .x) (a .c .t) (a .c .wanted) (a .h .now) (a .e .now) (a .u .now) (a .damping .now)
 
 abbrev vs : tie.Start → Outcome Row
 vs s = let a = s .args in reducedVelocities (a .c .n) (a .c .x) (a .h .now) (a .u .now)
@@ -30,8 +30,8 @@ start c = c .before .before .before
 passed : (c : tie.Else1) → numberOf (checked (start c)) ≡ 0
 passed c = sym (numbered (c .before .before .check-made .ensures)) ∙ c .if1 .left
 
-makeable : (c : tie.Else1) → (let a = start c .args in Makeable (a .c .n) (a .c .x) (a .c .t) (a .c .wanted) (a .h .now) (a .e .now) (a .u .now))
-makeable c = let a = start c .args in makeable-of (a .c .n) (a .c .x) (a .c .t) (a .c .wanted) (a .h .now) (a .e .now) (a .u .now) (passed c)
+makeable : (c : tie.Else1) → (let a = start c .args in Makeable (a .c .n) (a .c .x) (a .c .t) (a .c .wanted) (a .h .now) (a .e .now) (a .u .now) (a .damping .now))
+makeable c = let a = start c .args in makeable-of (a .c .n) (a .c .x) (a .c .t) (a .c .wanted) (a .h .now) (a .e .now) (a .u .now) (a .damping .now) (passed c)
 
 -- past V and Q
 abbrev else1 : tie.After-fluxes → tie.Else1
@@ -53,17 +53,17 @@ returns : tie.Need-returns
 returns c =
     let k = c .before .before .before in
     let a = k .before .args in
-    c .nothing .ensures ∙ stops-checked (a .c .n) (a .c .x) (a .c .t) (a .c .wanted) (a .h .now) (a .e .now) (a .u .now) _ (k .check-made .ensures) (c .before .if1 .taken)
+    c .nothing .ensures ∙ stops-checked (a .c .n) (a .c .x) (a .c .t) (a .c .wanted) (a .h .now) (a .e .now) (a .u .now) (a .damping .now) _ (k .check-made .ensures) (c .before .if1 .taken)
 
 reduced-velocities-requires : tie.Need-reduced-velocities-requires
 reduced-velocities-requires c κs =
     let a = start c .args in
-    given (a .c .n) (a .c .x) (a .c .t) (a .c .wanted) (a .h .now) (a .e .now) (a .u .now) (makeable c)
+    given (a .c .n) (a .c .x) (a .c .t) (a .c .wanted) (a .h .now) (a .e .now) (a .u .now) (a .damping .now) (makeable c)
 
 fluxes-requires : tie.Need-fluxes-requires
 fluxes-requires c κs =
     let a = start (c .before) .args in
-    ready (a .c .n) (a .c .x) (a .c .t) (a .c .wanted) (a .h .now) (a .e .now) (a .u .now) (makeable (c .before))
+    ready (a .c .n) (a .c .x) (a .c .t) (a .c .wanted) (a .h .now) (a .e .now) (a .u .now) (a .damping .now) (makeable (c .before))
 
 nothing-requires-2 : tie.Need-nothing-requires-2
 nothing-requires-2 c κs = search needs
@@ -72,7 +72,7 @@ returns-2 : tie.Need-returns-2
 returns-2 c =
     let k = c .before .before .before in
     let a = start (else1 k) .args in
-    c .nothing2 .ensures ∙ stops-7 (a .c .n) (a .c .x) (a .c .t) (a .c .wanted) (a .h .now) (a .e .now) (a .u .now) (passed (else1 k)) (velocities k) (c .before .if2 .taken)
+    c .nothing2 .ensures ∙ stops-7 (a .c .n) (a .c .x) (a .c .t) (a .c .wanted) (a .h .now) (a .e .now) (a .u .now) (a .damping .now) (passed (else1 k)) (velocities k) (c .before .if2 .taken)
 
 nothing-requires-3 : tie.Need-nothing-requires-3
 nothing-requires-3 c κs = search needs
@@ -83,13 +83,13 @@ returns-3 c =
     let k = l .before .before in
     let a = start (else1 k) .args in
     c .nothing3 .ensures
-    ∙ stops-9 (a .c .n) (a .c .x) (a .c .t) (a .c .wanted) (a .h .now) (a .e .now) (a .u .now) (passed (else1 k)) (velocities k) (l .if2 .left) (faces k) (c .before .if3 .taken)
+    ∙ stops-9 (a .c .n) (a .c .x) (a .c .t) (a .c .wanted) (a .h .now) (a .e .now) (a .u .now) (a .damping .now) (passed (else1 k)) (velocities k) (l .if2 .left) (faces k) (c .before .if3 .taken)
 
 accelerations-requires : tie.Need-accelerations-requires
 accelerations-requires c κs =
     let k = c .before .before .before .before .before .before in
     let a = start (else1 k) .args in
-    moving (a .c .n) (a .c .x) (a .c .t) (a .c .wanted) (a .h .now) (a .e .now) (a .u .now) (makeable (else1 k))
+    damped (a .c .n) (a .c .x) (a .c .t) (a .c .wanted) (a .h .now) (a .e .now) (a .u .now) (a .damping .now) (makeable (else1 k))
 
 returns-4 : tie.Need-returns-4
 returns-4 c =
@@ -97,7 +97,7 @@ returns-4 c =
     let l = m .before .before in
     let k = l .before .before in
     let a = start (else1 k) .args in
-    all-kept (a .c .n) (a .c .x) (a .c .t) (a .c .wanted) (a .h .now) (a .e .now) (a .u .now) (passed (else1 k)) (velocities k) (l .if2 .left) (faces k) (m .if3 .left)
+    all-kept (a .c .n) (a .c .x) (a .c .t) (a .c .wanted) (a .h .now) (a .e .now) (a .u .now) (a .damping .now) (passed (else1 k)) (velocities k) (l .if2 .left) (faces k) (m .if3 .left)
     (c .accelerations .ensures)
 
 pub work-out-spec : {M : Type 1} → statement M

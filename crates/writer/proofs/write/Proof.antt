@@ -20,7 +20,7 @@ use Rattle.writer.proofs.write.Tie as tie
 abbrev given : tie.After-check → Channel
 given c =
     let a = c .before .before .args in
-    counted (a .c) (a .h .now) (a .e .now) (a .u .now) (a .v .now) (a .q .now) (a .f .now)
+    counted (a .c) (a .h .now) (a .e .now) (a .u .now) (a .v .now) (a .q .now) (a .f .now) (a .damping .now)
 
 -- past the checks
 passed : (c : tie.Else1) → numberOf (checked (given (c .before .before)) []) ≡ 0
