@@ -24,7 +24,7 @@ static void *grown(void *at, size_t bytes)
 /* A channel with rows of its own for any N. */
 struct roomy {
     int64_t h[SECOND_CELLS], e[SECOND_CELLS], u[SECOND_CELLS], V[SECOND_CELLS];
-    int64_t Q[3 * (SECOND_CELLS - 1)], F[3 * SECOND_CELLS];
+    int64_t Q[3 * (SECOND_CELLS - 1)], F[3 * SECOND_CELLS], damping[SECOND_CELLS];
     struct second_channel channel;
 };
 
@@ -36,6 +36,7 @@ static void lend(struct roomy *roomy, size_t N)
     roomy->channel.V = (struct second_row){roomy->V, N};
     roomy->channel.Q = (struct second_row){roomy->Q, 3 * (N - 1)};
     roomy->channel.F = (struct second_row){roomy->F, 3 * N};
+    roomy->channel.damping = (struct second_row){roomy->damping, N};
 }
 
 /* Cells a file says it has, or 0 when it has no allowed number. */
@@ -80,7 +81,7 @@ static bool take_channel(struct roomy *roomy)
 static void give_channel(const struct second_channel *channel)
 {
     uint8_t bytes[SECOND_FILE];
-    size_t len = 24 + 64 * (size_t)channel->N;
+    size_t len = 28 + 68 * (size_t)channel->N;
     if (second_write(channel, bytes, len).number)
         fail("cannot form the file");
     if (fwrite(bytes, 1, len, stdout) != len || fflush(stdout))
@@ -111,9 +112,10 @@ static int print_file(void)
     return 0;
 }
 
-/* The rows of a text call, by the letters that name them. */
-enum { ROW_h, ROW_e, ROW_u, ROW_V, ROW_Q, ROW_F, ROW_s, ROW_bytes, ROWS, CHANNEL_ROWS = ROW_s };
-static const char *const row_names[ROWS] = {"h", "e", "u", "V", "Q", "F", "s", "bytes"};
+/* The rows of a text call, by their names; those of a channel in the order of its file. */
+enum { ROW_h, ROW_e, ROW_u, ROW_V, ROW_Q, ROW_F, ROW_damping, ROW_s, ROW_bytes, ROWS };
+enum { CHANNEL_ROWS = ROW_s };
+static const char *const row_names[ROWS] = {"h", "e", "u", "V", "Q", "F", "damping", "s", "bytes"};
 enum { COUNT_N, COUNT_X, COUNT_T, COUNT_accepted, COUNT_wanted, COUNT_len, COUNTS };
 static const char *const count_names[COUNTS] = {"N", "X", "T", "accepted", "wanted", "len"};
 
@@ -235,7 +237,7 @@ static bool take_call(struct call *call)
     return true;
 }
 
-/* Gives the rows from first to F that were not given the lengths N asks. */
+/* Gives the channel's rows from first on that were not given the lengths N asks. */
 static void lend_missing(struct call *call, int first, uint64_t N)
 {
     if (N < 8 || N > SECOND_CELLS)
@@ -249,9 +251,9 @@ static struct second_channel channel_of(const struct call *call)
 {
     const uint64_t *n = call->counts;
     const struct second_row *row = call->rows;
-    return (struct second_channel){n[COUNT_N],        n[COUNT_X], n[COUNT_T], n[COUNT_accepted],
-                                   n[COUNT_wanted],   row[ROW_h], row[ROW_e], row[ROW_u],
-                                   row[ROW_V],        row[ROW_Q], row[ROW_F]};
+    return (struct second_channel){n[COUNT_N],      n[COUNT_X], n[COUNT_T], n[COUNT_accepted],
+                                   n[COUNT_wanted], row[ROW_h], row[ROW_e], row[ROW_u],
+                                   row[ROW_V],      row[ROW_Q], row[ROW_F], row[ROW_damping]};
 }
 
 static size_t bytes_of(const struct second_row *row, uint8_t **bytes)
@@ -272,30 +274,37 @@ static uint8_t *put(uint8_t *b, uint64_t n, int bytes)
     return b + bytes;
 }
 
+/* Bytes of a value of a row in a file. */
+static int bytes_in(int row)
+{
+    return row == ROW_Q || row == ROW_F ? 8 : 4;
+}
+
 /* The file's bytes for the counts and rows as they are, unchecked: of each
    value the lowest 4 or 8 bytes. */
 static size_t unchecked_bytes(const struct call *call, uint8_t **bytes)
 {
     const uint64_t *n = call->counts, N = n[COUNT_N];
-    const uint64_t counts[12] = {1, N, n[COUNT_X], n[COUNT_T], n[COUNT_accepted],
-                                 n[COUNT_wanted], 48, 48 + 4 * N, 48 + 8 * N, 48 + 12 * N,
-                                 48 + 16 * N, 24 + 40 * N};
-    size_t len = 48;
+    const uint64_t counts[13] = {2, N, n[COUNT_X], n[COUNT_T], n[COUNT_accepted],
+                                 n[COUNT_wanted], 52, 52 + 4 * N, 52 + 8 * N, 52 + 12 * N,
+                                 52 + 16 * N, 28 + 40 * N, 28 + 64 * N};
+    size_t len = 52;
     for (int i = 0; i < CHANNEL_ROWS; i++)
-        len += (i < ROW_Q ? 4 : 8) * call->rows[i].len;
+        len += (size_t)bytes_in(i) * call->rows[i].len;
     uint8_t *b = *bytes = grown(NULL, len);
-    for (int i = 0; i < 12; i++)
+    for (int i = 0; i < 13; i++)
         b = put(b, counts[i], 4);
     for (int i = 0; i < CHANNEL_ROWS; i++)
         for (size_t j = 0; j < call->rows[i].len; j++)
-            b = put(b, (uint64_t)call->rows[i].at[j], i < ROW_Q ? 4 : 8);
+            b = put(b, (uint64_t)call->rows[i].at[j], bytes_in(i));
     return len;
 }
 
 static void say_answer(struct second_answer answer, const struct second_channel *channel)
 {
     const struct second_row rows[CHANNEL_ROWS] = {channel->h, channel->e, channel->u,
-                                                  channel->V, channel->Q, channel->F};
+                                                  channel->V, channel->Q, channel->F,
+                                                  channel->damping};
     printf("answer %u %u %u %" PRIu64 "\n", answer.number, answer.stage, answer.place,
            answer.count);
     printf("N %" PRIu64 "\nX %" PRIu64 "\nT %" PRIu64 "\n", channel->N, channel->X, channel->T);
@@ -313,7 +322,7 @@ static void text_write(const struct call *call)
     struct second_channel channel = channel_of(call);
     uint64_t N = channel.N;
     size_t len = call->len_given ? (size_t)call->counts[COUNT_len]
-                 : N >= 8 && N <= SECOND_CELLS ? 24 + 64 * (size_t)N
+                 : N >= 8 && N <= SECOND_CELLS ? 28 + 68 * (size_t)N
                                                : 0;
     uint8_t *bytes = grown(NULL, len);
     struct second_answer answer = second_write(&channel, bytes, len);
@@ -374,6 +383,8 @@ static int text(void)
 {
     static struct call call;
     while (take_call(&call)) {
+        if (strcmp(call.name, "read")) /* without a damping row there is no damping */
+            lend_missing(&call, ROW_damping, call.counts[COUNT_N]);
         if (!strcmp(call.name, "write"))
             text_write(&call);
         else if (!strcmp(call.name, "print"))

@@ -22,6 +22,7 @@ enum {
 #define Q_MOST INT64_C(1000000000000000)
 #define F_MOST INT64_C(100000000000)
 #define s_MOST INT64_C(1000000)
+#define DAMPING_MOST INT64_C(10000)
 #define e_LEAST (H_LEAST - 1000 * h_MOST) /* of any channel */
 #define WAVE_MOST (e_MOST - e_LEAST)
 #define RECORD_MOST INT64_C(1000000)
@@ -29,6 +30,9 @@ enum {
 /* A time step is too long where 9,810·h·T² is more than 6,000,000·X². */
 #define PER_DEPTH 9810
 #define PER_WIDTH 6000000
+
+/* A damping is in thousandths per second. */
+#define PER_SECOND 1000
 
 /* Each number that is rounded, with the name of the place that rounds it. A
    source that takes this one in may look at the numbers by macros of its own. */
@@ -69,6 +73,7 @@ struct work {
     size_t N;
     int64_t x, T;
     double w;
+    const int64_t *damping; /* the channel's */
 
     /* of the bed: coefficients, r·r, 1000h; pivots and ratios once solved */
     double a[CELLS], b[CELLS], c[CELLS], rr[CELLS], depth[CELLS];
@@ -203,7 +208,7 @@ static bool lengths_allowed(const struct second_channel *channel)
     uint64_t N = channel->N;
     return N >= 8 && N <= CELLS && channel->h.len == N && channel->e.len == N &&
            channel->u.len == N && channel->V.len == N && channel->Q.len == 3 * (N - 1) &&
-           channel->F.len == 3 * N;
+           channel->F.len == 3 * N && channel->damping.len == N;
 }
 
 static bool counts_allowed(uint64_t X, uint64_t T, uint64_t accepted, uint64_t wanted)
@@ -282,7 +287,7 @@ static struct second_answer water_refusal(struct work *k, const struct second_ch
 }
 
 /* The whole of a channel's input, with the values poured if there are any,
-   in the order 1, 2, 31 to 37, 4, 26, 5. */
+   in the order 1, 2, 31 to 36, 38, 37, 4, 26, 5. */
 static struct second_answer input_refusal(struct work *k, const struct second_channel *channel,
                                           const struct second_read_row *s)
 {
@@ -303,10 +308,12 @@ static struct second_answer input_refusal(struct work *k, const struct second_ch
         {36, F, N, -F_MOST, F_MOST},
         {36, F + N, N, -F_MOST, F_MOST},
         {36, F + 2 * N, N, -F_MOST, F_MOST},
+        {38, channel->damping.at, N, 0, DAMPING_MOST},
         {37, s ? s->at : NULL, s ? N : 0, -s_MOST, s_MOST},
     };
     struct second_answer answer = values_refusal(rows, sizeof rows / sizeof *rows);
     k->T = (int64_t)channel->T;
+    k->damping = channel->damping.at;
     return answer.number ? answer : water_refusal(k, channel);
 }
 
@@ -374,10 +381,13 @@ static inline int64_t D(const int64_t *f)
     return f[-2] - 8 * f[-1] + 8 * f[1] - f[2];
 }
 
+/* F, and what the damping takes from it, each rounded by itself. */
 static inline int64_t acceleration(const struct work *k, size_t j, struct divisor by_12x)
 {
-    const int64_t *e = k->e + GHOST + j, *u = k->u + GHOST + j;
-    return -quick_quotient(QUOTIENT_AT(MINUS_F, 9810000 * D(e) + u[0] * D(u), by_12x.d), by_12x);
+    const int64_t *e = k->e + GHOST + j, *u = k->u + GHOST + j, damped = k->damping[j] * u[0];
+    int64_t minus_F =
+        quick_quotient(QUOTIENT_AT(MINUS_F, 9810000 * D(e) + u[0] * D(u), by_12x.d), by_12x);
+    return -minus_F - rounded_quotient(QUOTIENT_AT(DAMPED, damped, PER_SECOND), PER_SECOND);
 }
 
 /* Q and F of the trial, from its e and u. */
@@ -661,8 +671,10 @@ static struct second_answer make_input_refusal(struct work *k, const struct seco
         {31, channel->h.at, N, 1, h_MOST},
         {32, channel->e.at, N, -e_MOST, e_MOST},
         {33, channel->u.at, N, -u_MOST, u_MOST},
+        {38, channel->damping.at, N, 0, DAMPING_MOST},
     };
     struct second_answer answer = values_refusal(rows, sizeof rows / sizeof *rows);
+    k->damping = channel->damping.at;
     return answer.number ? answer : water_refusal(k, channel);
 }
 
@@ -756,12 +768,13 @@ struct second_answer second_filter(struct second_channel *channel)
 
 static uint64_t file_length(uint64_t N)
 {
-    return 24 + 64 * N;
+    return 28 + 68 * N;
 }
 
 /* The numbers of a channel file, in rows long enough for any. */
 struct file {
     int64_t h[CELLS], e[CELLS], u[CELLS], V[CELLS], Q[3 * (CELLS - 1)], F[3 * CELLS];
+    int64_t damping[CELLS];
 };
 
 /* The channel whose rows are those of a file of N cells. */
@@ -775,6 +788,7 @@ static struct second_channel file_channel(struct file *file, size_t N)
         .V = {file->V, N},
         .Q = {file->Q, 3 * (N - 1)},
         .F = {file->F, 3 * N},
+        .damping = {file->damping, N},
     };
 }
 
@@ -811,16 +825,17 @@ static const uint8_t *take_longs(const uint8_t *b, struct second_row row)
 
 static bool offsets_allowed(const uint8_t *bytes, uint32_t N)
 {
-    return count_at(bytes + 24) == 48 && count_at(bytes + 28) == 48 + 4 * N &&
-           count_at(bytes + 32) == 48 + 8 * N && count_at(bytes + 36) == 48 + 12 * N &&
-           count_at(bytes + 40) == 48 + 16 * N && count_at(bytes + 44) == 24 + 40 * N;
+    return count_at(bytes + 24) == 52 && count_at(bytes + 28) == 52 + 4 * N &&
+           count_at(bytes + 32) == 52 + 8 * N && count_at(bytes + 36) == 52 + 12 * N &&
+           count_at(bytes + 40) == 52 + 16 * N && count_at(bytes + 44) == 28 + 40 * N &&
+           count_at(bytes + 48) == 28 + 64 * N;
 }
 
 /* Reads a file whose length and offsets are allowed. */
 static struct second_channel take_file(const uint8_t *bytes, size_t N, struct file *file)
 {
     struct second_channel channel = file_channel(file, N);
-    const uint8_t *b = bytes + 48;
+    const uint8_t *b = bytes + 52;
     channel.X = count_at(bytes + 8);
     channel.T = count_at(bytes + 12);
     channel.accepted = count_at(bytes + 16);
@@ -830,7 +845,8 @@ static struct second_channel take_file(const uint8_t *bytes, size_t N, struct fi
     b = take_shorts(b, channel.u);
     b = take_shorts(b, channel.V);
     b = take_longs(b, channel.Q);
-    take_longs(b, channel.F);
+    b = take_longs(b, channel.F);
+    take_shorts(b, channel.damping);
     return channel;
 }
 
@@ -842,9 +858,9 @@ static struct second_answer file_refusal(const uint8_t *bytes, size_t len,
 {
     struct work k;
     uint32_t N;
-    if (len < 48)
+    if (len < 48) /* whatever the edition */
         return refusal(12, 0, 0);
-    if (count_at(bytes) != 1)
+    if (count_at(bytes) != 2)
         return refusal(13, 0, 0);
     N = count_at(bytes + 4);
     if (N < 8 || N > CELLS)
@@ -886,6 +902,7 @@ struct second_answer second_read(const uint8_t *bytes, size_t len, struct second
     copy_row(channel->V, taken.V);
     copy_row(channel->Q, taken.Q);
     copy_row(channel->F, taken.F);
+    copy_row(channel->damping, taken.damping);
     return acceptance(0);
 }
 
@@ -907,10 +924,10 @@ static uint8_t *put_row(uint8_t *b, struct second_row row, unsigned bytes)
 static uint8_t *put_counts(uint8_t *b, const struct second_channel *channel)
 {
     uint64_t N = channel->N;
-    const uint64_t counts[12] = {1, N, channel->X, channel->T, channel->accepted,
-                                 channel->wanted, 48, 48 + 4 * N, 48 + 8 * N, 48 + 12 * N,
-                                 48 + 16 * N, 24 + 40 * N};
-    for (size_t i = 0; i < 12; i++)
+    const uint64_t counts[13] = {2, N, channel->X, channel->T, channel->accepted,
+                                 channel->wanted, 52, 52 + 4 * N, 52 + 8 * N, 52 + 12 * N,
+                                 52 + 16 * N, 28 + 40 * N, 28 + 64 * N};
+    for (size_t i = 0; i < 13; i++)
         b = put(b, counts[i], 4);
     return b;
 }
@@ -929,7 +946,8 @@ struct second_answer second_write(const struct second_channel *channel, uint8_t 
     bytes = put_row(bytes, channel->u, 4);
     bytes = put_row(bytes, channel->V, 4);
     bytes = put_row(bytes, channel->Q, 8);
-    put_row(bytes, channel->F, 8);
+    bytes = put_row(bytes, channel->F, 8);
+    put_row(bytes, channel->damping, 4);
     return acceptance(0);
 }
 

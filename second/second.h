@@ -9,7 +9,7 @@
 
 enum {
     SECOND_CELLS = 256,  /* most cells of a channel */
-    SECOND_FILE = 16408, /* longest channel file, in bytes */
+    SECOND_FILE = 17436, /* longest channel file, in bytes */
     SECOND_LINE = 64,    /* room for the printed line and its closing 0 */
     SECOND_GAUGES = 8,   /* most gauges */
     SECOND_STATE = 512,  /* bytes of the gauges' state */
@@ -30,17 +30,18 @@ struct second_read_row {
 
 /* Of the counts and the depths together: a time step for which 9,810·h·T² is more than 6,000,000·X²
    at the deepest h is too long, and every call that takes the channel then answers 26, after 4 and
-   before 5. */
+   before 5. The damping of a cell is 0 to 10,000 thousandths per second; no call changes it. */
 struct second_channel {
     uint64_t N, X, T, accepted, wanted;
     struct second_row h, e, u, V; /* N each */
     struct second_row Q;          /* 3(N-1): newest level, middle, oldest */
     struct second_row F;          /* 3N: newest level, middle, oldest */
+    struct second_row damping;    /* N */
 };
 
 /* number 0: accepted, and count is the corrections of a step, the steps of a
    run or the place of a new gauge; otherwise the refusal's number and stage (a run's count stands).
-   place, of the refusals 4, 5 and 31 to 37: the lowest cell at fault, counted
+   place, of the refusals 4, 5 and 31 to 38: the lowest cell at fault, counted
    from 1; of 35 the lowest face. Of 35 and 36 it is a place within the newest
    level that has a fault. In all other answers it is 0. */
 struct second_answer {
@@ -48,7 +49,7 @@ struct second_answer {
     uint64_t count;
 };
 
-/* Reads N, X, T, wanted, h, e, u; fills V, Q, F and sets accepted to 0. */
+/* Reads N, X, T, wanted, h, e, u, damping; fills V, Q, F and sets accepted to 0. */
 struct second_answer second_make(struct second_channel *channel);
 
 /* One step, with the amount s poured into each cell. Its time weights are those of the
@@ -63,7 +64,7 @@ struct second_answer second_run(struct second_channel *channel);
 /* Fills the counts and the lent rows from a channel file. */
 struct second_answer second_read(const uint8_t *bytes, size_t len, struct second_channel *channel);
 
-/* Writes the channel file; len must be 24 + 64N. */
+/* Writes the channel file; len must be 28 + 68N. */
 struct second_answer second_write(const struct second_channel *channel, uint8_t *bytes, size_t len);
 
 /* Writes the one printed line of a file, newline and closing 0 included. */
