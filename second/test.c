@@ -48,16 +48,17 @@ enum { GUARD = 4 };
 struct rig {
     struct second_channel c;
     struct second_read_row s;
-    int64_t rows[7][3 * CELLS + 2 * GUARD];
+    int64_t rows[8][3 * CELLS + 2 * GUARD];
 };
 
-enum { h_ROW, e_ROW, u_ROW, V_ROW, Q_ROW, F_ROW, s_ROW };
+/* In the order in which their values are asked. */
+enum { h_ROW, e_ROW, u_ROW, V_ROW, Q_ROW, F_ROW, damping_ROW, s_ROW };
 
 /* Still water 1 m deep. */
 static void still(struct rig *rig, size_t N)
 {
     memset(rig, 0x5a, sizeof *rig);
-    for (int i = 0; i < 7; i++)
+    for (int i = 0; i < 8; i++)
         memset(rig->rows[i] + GUARD, 0, 3 * CELLS * sizeof(int64_t));
     for (size_t j = 0; j < N; j++)
         rig->rows[h_ROW][GUARD + j] = 1000;
@@ -72,19 +73,29 @@ static void still(struct rig *rig, size_t N)
     rig->c.V = (struct second_row){rig->rows[V_ROW] + GUARD, N};
     rig->c.Q = (struct second_row){rig->rows[Q_ROW] + GUARD, 3 * (N - 1)};
     rig->c.F = (struct second_row){rig->rows[F_ROW] + GUARD, 3 * N};
+    rig->c.damping = (struct second_row){rig->rows[damping_ROW] + GUARD, N};
     rig->s = (struct second_read_row){rig->rows[s_ROW] + GUARD, N};
 }
 
 static struct second_row row_of(const struct rig *rig, int i)
 {
-    const struct second_row rows[6] = {rig->c.h, rig->c.e, rig->c.u, rig->c.V, rig->c.Q, rig->c.F};
-    return i < 6 ? rows[i] : (struct second_row){(int64_t *)rig->s.at, rig->s.len};
+    const struct second_row rows[8] = {
+        rig->c.h, rig->c.e, rig->c.u,       rig->c.V,
+        rig->c.Q, rig->c.F, rig->c.damping, {(int64_t *)rig->s.at, rig->s.len}};
+    return rows[i];
 }
 
 static void depths(struct rig *rig, int64_t h)
 {
     for (size_t j = 0; j < rig->c.N; j++)
         rig->c.h.at[j] = h;
+}
+
+/* One damping in every cell. */
+static void damp(struct rig *rig, int64_t damping)
+{
+    for (size_t j = 0; j < rig->c.N; j++)
+        rig->c.damping.at[j] = damping;
 }
 
 enum call { MAKE, STEP, FILTER, RUN, WRITE };
@@ -262,6 +273,104 @@ static void moved_by_1(const struct work *k, const char *what)
 {
     static const int64_t due[8] = {-1, 0, 0, 0, 0, 0, 0, 1};
     check_row(k->e + GHOST, due, 8, what);
+}
+
+/* A slope of 12 um a cell with u 1 and with u 3: 0.5 goes to 0 and 1.5 to 2. */
+static void damped_slopes(void)
+{
+    for (int64_t u = -3; u <= 3; u += 2) {
+        const int64_t due = -118 - (u == 3 ? 2 : u == -3 ? -2 : 0);
+        struct rig rig;
+        bool good = true;
+        still(&rig, 8);
+        for (int64_t j = 0; j < 8; j++) {
+            rig.c.e.at[j] = 12 * (j + 1);
+            rig.c.u.at[j] = u;
+        }
+        damp(&rig, 500);
+        check_accepted(call(&rig, MAKE), 0, "a damped slope is made");
+        for (size_t j = 2; j < 6; j++)
+            for (size_t level = 0; level < 3; level++)
+                good &= rig.c.F.at[8 * level + j] == due;
+        check(good, "a damped slope");
+    }
+}
+
+/* F of cell 4 is 6.54 and damping takes 0.45 from it; rounded at once it would be 6. */
+static void rounded_apart(void)
+{
+    for (int64_t sign = -1; sign <= 1; sign += 2) {
+        struct rig rig;
+        still(&rig, 8);
+        rig.c.e.at[2] = sign;
+        rig.c.u.at[3] = sign * 3;
+        damp(&rig, 150);
+        check_accepted(call(&rig, MAKE), 0, "6.54 and 0.45 are made");
+        check_number(rig.c.F.at[3], sign * 7, "6.54 less 0.45, rounded apart");
+    }
+}
+
+/* Shallow still water of 8 wide cells, made with these velocities and one damping. */
+static bool made_with(struct rig *rig, const int64_t *u, int64_t damping)
+{
+    still(rig, 8);
+    depths(rig, 1);
+    rig->c.X = 5000;
+    memcpy(rig->c.u.at, u, 8 * sizeof *u);
+    damp(rig, damping);
+    return call(rig, MAKE).number == 0;
+}
+
+/* What dampings take from F, by what is left of the product with u: halves, what lies beside them,
+   and products beyond 32 bits. */
+static void damped_quotients(void)
+{
+    static const int64_t dampings[] = {0,    1,    2,    20,   100,  499,  500,  501,  999,
+                                       1000, 1001, 1500, 2500, 4999, 5000, 9500, 9999, 10000};
+    static const int64_t most[] = {10, 1000, 100000, u_MOST};
+    int64_t wrong = 0, wide = 0, halves[2][2] = {{0}};
+    uint64_t seed = 3;
+    for (size_t i = 0; i < sizeof dampings / sizeof *dampings; i++)
+        for (size_t round = 0; round < 400; round++) {
+            int64_t u[8], top = most[round % 4];
+            struct rig plain, damped;
+            for (size_t j = 0; j < 8; j++) {
+                seed = seed * UINT64_C(6364136223846793005) + UINT64_C(1442695040888963407);
+                u[j] = (int64_t)(seed >> 20) % (2 * top + 1) - top;
+            }
+            u[0] = round % 8 < 4 ? top : -top;
+            wrong += !made_with(&plain, u, 0) || !made_with(&damped, u, dampings[i]);
+            for (size_t j = 0; j < 8; j++) {
+                int64_t n = dampings[i] * u[j];
+                wrong += !is_rounded(plain.c.F.at[j] - damped.c.F.at[j], n, 1000);
+                wide += size_of(n) > UINT32_MAX;
+                if (size_of(n % 1000) == 500)
+                    halves[n < 0][n / 1000 % 2 != 0]++;
+            }
+        }
+    check_number(wrong, 0, "what dampings take");
+    check(halves[0][0] > 1000 && halves[0][1] > 1000 && halves[1][0] > 1000 && halves[1][1] > 1000,
+          "halves of both signs, between an even number and an odd one");
+    check(wide > 1000, "products beyond 32 bits");
+}
+
+/* The largest F that there is: 89,430,000,000 without damping, and 200,000,000 by it. */
+static void largest_F(void)
+{
+    static const int64_t shape[5] = {-1, 1, 0, -1, 1};
+    static const int64_t damping[1] = {10000};
+    static struct work k;
+    k.x = 10000;
+    k.damping = damping;
+    for (int64_t sign = -1; sign <= 1; sign += 2) {
+        for (size_t i = 0; i < 5; i++) {
+            k.e[GHOST - 2 + i] = sign * e_MOST * shape[i];
+            k.u[GHOST - 2 + i] = -u_MOST * shape[i];
+        }
+        k.u[GHOST] = -sign * u_MOST;
+        check_number(acceleration(&k, 0, divisor(12 * k.x)), sign * INT64_C(89630000000),
+                     "the largest F");
+    }
 }
 
 /* Counts of accepted steps with the row of the ladder that each has. */
@@ -554,13 +663,14 @@ static void cells_and_lengths(void)
     }
     still(&rig, 256);
     check_number(input_number(&rig), 15, "N 256");
-    for (int row = h_ROW; row <= F_ROW; row++)
+    for (int row = h_ROW; row <= damping_ROW; row++)
         for (int more = -1; more <= 1; more += 2)
             for (enum call which = MAKE; which <= WRITE; which++) {
-                struct second_row *rows[6];
+                struct second_row *rows[7];
                 still(&rig, 8);
                 rows[h_ROW] = &rig.c.h, rows[e_ROW] = &rig.c.e, rows[u_ROW] = &rig.c.u;
                 rows[V_ROW] = &rig.c.V, rows[Q_ROW] = &rig.c.Q, rows[F_ROW] = &rig.c.F;
+                rows[damping_ROW] = &rig.c.damping;
                 rows[row]->len = (size_t)((ptrdiff_t)rows[row]->len + more);
                 refused(&rig, which, 1, 0, 0, "a lent row's length");
             }
@@ -610,8 +720,9 @@ static void counts(void)
     refused(&rig, MAKE, 2, 0, 0, "make's wanted");
 }
 
-static const int64_t low[7] = {1, -e_MOST, -u_MOST, -V_MOST, -Q_MOST, -F_MOST, -s_MOST};
-static const int64_t high[7] = {h_MOST, e_MOST, u_MOST, V_MOST, Q_MOST, F_MOST, s_MOST};
+static const int64_t low[8] = {1, -e_MOST, -u_MOST, -V_MOST, -Q_MOST, -F_MOST, 0, -s_MOST};
+static const int64_t high[8] = {h_MOST, e_MOST, u_MOST, V_MOST, Q_MOST, F_MOST, 10000, s_MOST};
+static const unsigned refusals[8] = {31, 32, 33, 34, 35, 36, 38, 37};
 
 static size_t levels_of(int row)
 {
@@ -633,14 +744,14 @@ static int64_t *value_of(struct rig *rig, int row, size_t level, size_t place)
 /* Every call that reads the row is refused for it, at the place. */
 static void outside(struct rig *rig, int row, size_t place, const char *what)
 {
-    unsigned number = 31 + (unsigned)row;
+    unsigned number = refusals[row];
     refused(rig, STEP, number, 0, (unsigned)place, what);
     if (row < s_ROW) {
         refused(rig, FILTER, number, 0, (unsigned)place, what);
         refused(rig, RUN, number, 0, (unsigned)place, what);
         refused(rig, WRITE, number, 0, (unsigned)place, what);
     }
-    if (row <= u_ROW)
+    if (row <= u_ROW || row == damping_ROW)
         refused(rig, MAKE, number, 0, (unsigned)place, what);
 }
 
@@ -719,6 +830,10 @@ static void two_values(void)
     rig.c.h.at[5] = 0;
     rig.c.e.at[1] = e_MOST + 1;
     outside(&rig, h_ROW, 6, "a depth in cell 6 and a height in cell 2");
+    still(&rig, 8);
+    rig.c.damping.at[4] = -1;
+    ((int64_t *)rig.s.at)[0] = s_MOST + 1;
+    outside(&rig, damping_ROW, 5, "a damping in cell 5 and a poured amount in cell 1");
 }
 
 static void water(void)
@@ -853,6 +968,9 @@ static void time_step_order(void)
         refused(&rig, which, 4, 0, 7, "after a cell with too little water");
     ((int64_t *)rig.s.at)[7] = s_MOST + 1;
     refused(&rig, STEP, 37, 0, 8, "and after what is poured");
+    rig.c.damping.at[6] = 10001;
+    for (enum call which = MAKE; which <= WRITE; which++)
+        refused(&rig, which, 38, 0, 7, "and after a damping");
     rig.c.F.at[23] = -F_MOST - 1;
     for (enum call which = STEP; which <= WRITE; which++)
         refused(&rig, which, 36, 0, 8, "and after a level");
@@ -861,31 +979,32 @@ static void time_step_order(void)
 /* Faults of the input in the order of their refusals. */
 static const struct {
     unsigned number, place;
-} input_faults[] = {{1, 0},  {2, 0},  {31, 9}, {32, 8}, {33, 7},  {34, 6},
-                    {35, 5}, {36, 4}, {37, 3}, {4, 2},  {26, 0}, {5, 1}};
+} input_faults[] = {{1, 0},  {2, 0},  {31, 10}, {32, 9}, {33, 8}, {34, 7}, {35, 6},
+                    {36, 5}, {38, 4}, {37, 3},  {4, 2},  {26, 0}, {5, 1}};
 
 static void lay(struct rig *rig, unsigned number)
 {
     switch (number) {
-    case 1: rig->c.u.len = 8; break;
+    case 1: rig->c.u.len = 9; break;
     case 2: rig->c.T = 0; break;
     case 4: rig->c.e.at[1] = -4999500; break;
     case 5: rig->c.h.at[0] = 1000; break;
     case 26: rig->c.X = 10; break;
-    case 31: rig->c.h.at[8] = 0; break;
-    case 32: rig->c.e.at[7] = e_MOST + 1; break;
-    case 33: rig->c.u.at[6] = u_MOST + 1; break;
-    case 34: rig->c.V.at[5] = V_MOST + 1; break;
-    case 35: rig->c.Q.at[16 + 4] = Q_MOST + 1; break;
-    case 36: rig->c.F.at[9 + 3] = F_MOST + 1; break;
+    case 31: rig->c.h.at[9] = 0; break;
+    case 32: rig->c.e.at[8] = e_MOST + 1; break;
+    case 33: rig->c.u.at[7] = u_MOST + 1; break;
+    case 34: rig->c.V.at[6] = V_MOST + 1; break;
+    case 35: rig->c.Q.at[18 + 5] = Q_MOST + 1; break;
+    case 36: rig->c.F.at[10 + 4] = F_MOST + 1; break;
     case 37: ((int64_t *)rig->s.at)[2] = s_MOST + 1; break;
+    case 38: rig->c.damping.at[3] = 10001; break;
     }
 }
 
 /* Whether a call reads what the refusal is about. */
 static bool reads(enum call which, unsigned number)
 {
-    return number == 37 ? which == STEP : number < 34 || which != MAKE;
+    return number == 37 ? which == STEP : number < 34 || number == 38 || which != MAKE;
 }
 
 /* Every refusal of the input is made to meet the ones after it. */
@@ -894,7 +1013,7 @@ static void input_order(void)
     const size_t count = sizeof input_faults / sizeof *input_faults;
     for (enum call which = MAKE; which <= WRITE; which++) {
         struct rig rig;
-        still(&rig, 9);
+        still(&rig, 10);
         rig.c.accepted = rig.c.wanted;
         depths(&rig, 5000);
         for (size_t i = count; i-- > 0;) {
@@ -913,6 +1032,8 @@ static void poured_order(void)
     rig.c.e.at[0] = -999500;
     ((int64_t *)rig.s.at)[7] = s_MOST + 1;
     refused(&rig, STEP, 37, 0, 8, "poured beats water depth");
+    rig.c.damping.at[7] = -1;
+    refused(&rig, STEP, 38, 0, 8, "damping beats poured");
     rig.c.X = 9;
     refused(&rig, STEP, 2, 0, 0, "counts beat poured");
     rig.s.len = 9;
@@ -1202,17 +1323,17 @@ static void slope(struct rig *rig)
 /* Writes the channel to a file and reads it back into rows that held something else. */
 static void through_a_file(struct rig *rig)
 {
-    uint8_t bytes[24 + 64 * 16];
+    uint8_t bytes[28 + 68 * 16];
     check_accepted(second_write(&rig->c, bytes, sizeof bytes), 0, "a slope is written");
     still(rig, 16);
-    for (int row = h_ROW; row <= F_ROW; row++)
+    for (int row = h_ROW; row <= damping_ROW; row++)
         memset(row_of(rig, row).at, 0x33, row_of(rig, row).len * sizeof(int64_t));
     check_accepted(second_read(bytes, sizeof bytes, &rig->c), 0, "a slope is read");
 }
 
 static void same_rows(const struct rig *rig, const struct rig *other, const char *what)
 {
-    for (int row = h_ROW; row <= F_ROW; row++)
+    for (int row = h_ROW; row <= damping_ROW; row++)
         check_row(row_of(rig, row).at, row_of(other, row).at, row_of(rig, row).len, what);
     check(rig->c.accepted == other->c.accepted, what);
 }
@@ -1324,19 +1445,136 @@ static void counts_and_rows(void)
           "each row of the ladder leaves another trial");
 }
 
-/* The stored u is checked and otherwise not read by a step. */
-static void stored_u(void)
+/* The slope of 16 cells, each with a damping of its own, the last one with the largest. */
+static void damped_slope(struct rig *rig)
+{
+    slope(rig);
+    for (size_t j = 0; j < 16; j++)
+        rig->c.damping.at[j] = j == 15 ? 10000 : (int64_t)(j * j * 1237 + 500 * j) % 9999;
+    check_accepted(call(rig, MAKE), 0, "a damped slope is made");
+}
+
+/* Whether the newest F of a channel is what its heights and velocities give without damping, less
+   what its damping takes by these velocities. */
+static bool damped_as_left(const struct rig *rig)
+{
+    struct rig plain;
+    bool good = true;
+    still(&plain, (size_t)rig->c.N);
+    plain.c.X = rig->c.X;
+    for (int row = h_ROW; row <= u_ROW; row++)
+        memcpy(row_of(&plain, row).at, row_of(rig, row).at, row_of(rig, row).len * sizeof(int64_t));
+    check_accepted(call(&plain, MAKE), 0, "what is left is made without damping");
+    for (size_t j = 0; j < rig->c.N; j++)
+        good &= is_rounded(plain.c.F.at[j] - rig->c.F.at[j],
+                           rig->c.damping.at[j] * rig->c.u.at[j], 1000);
+    return good;
+}
+
+/* What make, each of the first steps and a filter pass leave is damped; what they do not work out
+   is as it was, and so is the damping. */
+static void damped_calls(void)
+{
+    struct rig rig, plain;
+    int64_t damping[16], older[32];
+    slope(&plain);
+    damped_slope(&rig);
+    memcpy(damping, rig.c.damping.at, sizeof damping);
+    for (int row = h_ROW; row <= Q_ROW; row++)
+        check_row(row_of(&rig, row).at, row_of(&plain, row).at, row_of(&rig, row).len,
+                  "make damps F alone");
+    check(damped_as_left(&rig), "what make leaves is damped");
+    for (size_t level = 1; level < 3; level++)
+        check_row(rig.c.F.at + 16 * level, rig.c.F.at, 16, "in every level");
+    for (size_t i = 0; i < 4; i++) {
+        memcpy(older, rig.c.F.at, sizeof older);
+        check_number(call(&rig, STEP).number, 0, "a damped step");
+        check(damped_as_left(&rig), "what a step leaves is damped");
+        check_row(rig.c.F.at + 16, older, 32, "the levels that it moves down stay");
+    }
+    still(&plain, 16);
+    plain.c.X = rig.c.X;
+    plain.c.T = rig.c.T;
+    for (int row = h_ROW; row <= F_ROW; row++)
+        memcpy(row_of(&plain, row).at, row_of(&rig, row).at, row_of(&rig, row).len * sizeof(int64_t));
+    check_accepted(call(&rig, FILTER), 0, "a damped filter pass");
+    check_accepted(call(&plain, FILTER), 0, "the same without damping");
+    check(damped_as_left(&rig), "what a filter pass leaves is damped");
+    for (int row = h_ROW; row <= Q_ROW; row++)
+        check_row(row_of(&rig, row).at, row_of(&plain, row).at, row_of(&rig, row).len,
+                  "a filter pass damps F alone");
+    check_row(rig.c.F.at + 16, plain.c.F.at + 16, 32, "and its newest level alone");
+    check_row(rig.c.damping.at, damping, 16, "no call changes the damping");
+}
+
+/* The trial of every stage of a step is damped by the u that is solved for it. */
+static void damped_stages(void)
+{
+    static struct work k;
+    struct rig rig;
+    struct sums sums;
+    damped_slope(&rig);
+    rig.c.u.at[3] = u_MOST; /* not read */
+    check_accepted(open_refusal(&k, &rig.c, &rig.s), 0, "the input of a damped step");
+    memset(k.float_u, 0, sizeof k.float_u);
+    for (unsigned stage = 0; stage <= 3; stage++) {
+        static const int64_t none[CELLS];
+        int64_t F[16], taken = 0;
+        check_number(stage == 0 ? predict(&k, &rig.c, rig.s.at) : correct(&k, &rig.c, &sums), 0,
+                     "a damped stage");
+        check_number(backward(&k, &sums), 0, "its velocities");
+        check_number(levels(&k), 0, "its levels");
+        memcpy(F, k.F, sizeof F);
+        k.damping = none;
+        check_number(levels(&k), 0, "the same without damping");
+        k.damping = rig.c.damping.at;
+        for (size_t j = 0; j < 16; j++) {
+            int64_t n = k.damping[j] * k.u[GHOST + j];
+            check(is_rounded(k.F[j] - F[j], n, 1000), "F of a stage is damped");
+            taken += k.F[j] != F[j];
+            k.F[j] = F[j];
+        }
+        check(taken >= 12, "nearly everywhere");
+    }
+}
+
+/* Damped steps one by one, with a file between, and as a run. */
+static void damped_steps(void)
+{
+    struct rig rig, filed, ran, plain;
+    damped_slope(&rig);
+    damped_slope(&filed);
+    slope(&plain);
+    for (size_t i = 0; i < 4; i++) {
+        check_number(call(&rig, STEP).number, 0, "a damped step");
+        through_a_file(&filed);
+        check_number(call(&filed, STEP).number, 0, "a damped step from a file");
+        same_rows(&filed, &rig, "a damped slope from a file");
+        damped_slope(&ran);
+        ran.c.wanted = i + 1;
+        check_accepted(call(&ran, RUN), i + 1, "a damped run");
+        same_rows(&ran, &rig, "a damped slope after a run");
+        check_number(call(&plain, STEP).number, 0, "a step without damping");
+        check(other_trial(&rig, &plain), "which leaves something else");
+    }
+}
+
+/* The stored u is checked and otherwise not read by a step, damped or not. */
+static void stored_u(int64_t damping)
 {
     struct rig one, other;
     still(&one, 8);
     one.c.e.at[3] = 5000;
+    damp(&one, damping);
     still(&other, 8);
     other.c.e.at[3] = 5000;
+    damp(&other, damping);
     for (size_t j = 0; j < 8; j++)
         other.c.u.at[j] = 20000000;
     check_accepted(call(&one, STEP), call(&other, STEP).count, "the stored u is not read");
     check_row(one.c.u.at, other.c.u.at, 8, "nor does it stay");
     check_row(one.c.e.at, other.c.e.at, 8, "nor moves water");
+    check_row(one.c.F.at, other.c.F.at, 24, "nor damps");
 }
 
 static void pouring(void)
@@ -1428,38 +1666,44 @@ static size_t telling_file(struct rig *rig, uint8_t *bytes)
         rig->c.Q.at[j] = j % 2 ? -Q_MOST + (int64_t)j : Q_MOST - (int64_t)j;
     for (size_t j = 0; j < 24; j++)
         rig->c.F.at[j] = j % 2 ? -F_MOST + (int64_t)j : F_MOST - (int64_t)j;
-    check_accepted(second_write(&rig->c, bytes, 536), 0, "a file is written");
-    return 536;
+    for (size_t j = 0; j < 8; j++)
+        rig->c.damping.at[j] = 10000 - 1111 * (int64_t)j;
+    check_accepted(second_write(&rig->c, bytes, 572), 0, "a file is written");
+    return 572;
 }
 
 static void file_bytes(void)
 {
-    static const uint8_t head[48] = {1,   0, 0, 0, 8,   0, 0, 0, 3,   4, 0, 0, 0x21, 0, 0, 0,
-                                     1,   2, 3, 0, 2,   2, 3, 0, 48,  0, 0, 0, 80,   0, 0, 0,
-                                     112, 0, 0, 0, 144, 0, 0, 0, 176, 0, 0, 0, 88,   1, 0, 0};
+    static const uint8_t head[52] = {2,   0, 0, 0, 8,   0, 0, 0, 3,   4, 0, 0, 0x21, 0, 0, 0,
+                                     1,   2, 3, 0, 2,   2, 3, 0, 52,  0, 0, 0, 84,   0, 0, 0,
+                                     116, 0, 0, 0, 148, 0, 0, 0, 180, 0, 0, 0, 92,   1, 0, 0,
+                                     28,  2, 0, 0};
     static const uint8_t minus_4[4] = {0xfc, 0xff, 0xff, 0xff};
     static const uint8_t newest_Q[8] = {0, 0x80, 0xc6, 0xa4, 0x7e, 0x8d, 3, 0};
     static const uint8_t second_F[8] = {1, 0x18, 0x89, 0xb7, 0xe8, 0xff, 0xff, 0xff};
+    static const uint8_t dampings[8] = {0x10, 0x27, 0, 0, 0xb9, 0x22, 0, 0};
     struct rig rig, back;
-    uint8_t bytes[536 + 8];
+    uint8_t bytes[572 + 8];
     memset(bytes, 0xa5, sizeof bytes);
     telling_file(&rig, bytes);
-    check(memcmp(bytes, head, 48) == 0, "counts and offsets");
-    check(memcmp(bytes + 80, minus_4, 4) == 0, "height of cell 1");
-    check(memcmp(bytes + 176, newest_Q, 8) == 0, "newest flux");
-    check(memcmp(bytes + 344 + 8, second_F, 8) == 0, "acceleration of cell 2");
-    check(bytes[536] == 0xa5, "nothing beyond the file");
+    check(memcmp(bytes, head, 52) == 0, "counts and offsets");
+    check(memcmp(bytes + 84, minus_4, 4) == 0, "height of cell 1");
+    check(memcmp(bytes + 180, newest_Q, 8) == 0, "newest flux");
+    check(memcmp(bytes + 348 + 8, second_F, 8) == 0, "acceleration of cell 2");
+    check(memcmp(bytes + 540, dampings, 8) == 0, "damping of cells 1 and 2");
+    check(bytes[572] == 0xa5, "nothing beyond the file");
     still(&back, 8);
     memset(back.c.h.at, 0x77, 8 * sizeof(int64_t));
-    check_accepted(second_read(bytes, 536, &back.c), 0, "a file is read");
+    memset(back.c.damping.at, 0x77, 8 * sizeof(int64_t));
+    check_accepted(second_read(bytes, 572, &back.c), 0, "a file is read");
     check(back.c.N == 8 && back.c.X == 0x0403 && back.c.T == 0x21 && back.c.accepted == 0x030201 &&
               back.c.wanted == 0x030202,
           "counts come back");
-    for (int row = h_ROW; row <= F_ROW; row++)
+    for (int row = h_ROW; row <= damping_ROW; row++)
         check_row(row_of(&back, row).at, row_of(&rig, row).at, row_of(&rig, row).len,
                   "a row comes back");
-    for (size_t len = 0; len < 544; len += len == 535 ? 2 : 1)
-        if (len != 536 && (len < 4 || len > 530)) {
+    for (size_t len = 0; len < 580; len++)
+        if (len != 572 && (len < 4 || len > 530)) {
             uint8_t before[sizeof bytes];
             memcpy(before, bytes, sizeof bytes);
             check_answer(second_write(&rig.c, bytes, len), 15, 0, 0, 0,
@@ -1490,91 +1734,142 @@ static void file_order(void)
     uint8_t bytes[600] = {0};
     size_t len = telling_file(&rig, bytes);
     for (size_t j = 0; j < 8; j++)
-        put(bytes + 48 + 4 * j, j == 4 ? 1000 : 2100, 4);
+        put(bytes + 52 + 4 * j, j == 4 ? 1000 : 2100, 4);
     file_refused(bytes, len, 5, 5, "a file not dominant");
     put(bytes + 8, 20, 4);
     file_refused(bytes, len, 26, 0, "a file whose time step is too long");
-    put(bytes + 80, (uint64_t)(999 - 2100000), 4);
+    put(bytes + 84, (uint64_t)(999 - 2100000), 4);
     file_refused(bytes, len, 4, 1, "a file with too little water");
-    put(bytes + 344 + 23 * 8, (uint64_t)(F_MOST + 1), 8);
+    put(bytes + 540 + 5 * 4, 10001, 4);
+    file_refused(bytes, len, 38, 6, "a file with a damping outside");
+    put(bytes + 348 + 23 * 8, (uint64_t)(F_MOST + 1), 8);
     file_refused(bytes, len, 36, 8, "a file with an acceleration outside");
-    put(bytes + 176 + 13 * 8, (uint64_t)(-Q_MOST - 1), 8);
+    put(bytes + 180 + 13 * 8, (uint64_t)(-Q_MOST - 1), 8);
     file_refused(bytes, len, 35, 7, "a file with a flux outside");
-    put(bytes + 144 + 2 * 4, (uint64_t)(V_MOST + 1), 4);
+    put(bytes + 148 + 2 * 4, (uint64_t)(V_MOST + 1), 4);
     file_refused(bytes, len, 34, 3, "a file with V outside");
-    put(bytes + 112 + 3 * 4, (uint64_t)(-u_MOST - 1), 4);
+    put(bytes + 116 + 3 * 4, (uint64_t)(-u_MOST - 1), 4);
     file_refused(bytes, len, 33, 4, "a file with u outside");
-    put(bytes + 80 + 5 * 4, (uint64_t)(e_MOST + 1), 4);
+    put(bytes + 84 + 5 * 4, (uint64_t)(e_MOST + 1), 4);
     file_refused(bytes, len, 32, 6, "a file with a height outside");
-    put(bytes + 48 + 6 * 4, 0, 4);
+    put(bytes + 52 + 6 * 4, 0, 4);
     file_refused(bytes, len, 31, 7, "a file with a depth outside");
     put(bytes + 20, 0x030200, 4);
     file_refused(bytes, len, 2, 0, "a file accepted beyond wanted");
-    put(bytes + 44, 345, 4);
+    put(bytes + 48, 541, 4);
     file_refused(bytes, len, 14, 0, "a file of other offsets");
     file_refused(bytes, len - 1, 12, 0, "a short file");
     file_refused(bytes, len + 1, 12, 0, "a long file");
-    file_refused(bytes, 48, 12, 0, "a file of counts alone");
+    for (size_t some = 48; some <= 52; some++)
+        file_refused(bytes, some, 12, 0, "a file of counts alone");
     put(bytes + 4, 257, 4);
     file_refused(bytes, len, 1, 0, "a file of 257 cells");
     put(bytes + 4, 7, 4);
     file_refused(bytes, len, 1, 0, "a file of 7 cells");
     put(bytes + 4, UINT32_MAX, 4);
     file_refused(bytes, len, 1, 0, "a file of 2^32 - 1 cells");
-    put(bytes, 2, 4);
-    file_refused(bytes, len, 13, 0, "a file of edition 2");
-    file_refused(bytes, 48, 13, 0, "48 bytes of edition 2");
+    for (size_t some = 48; some <= 52; some++)
+        file_refused(bytes, some, 1, 0, "its counts alone, or less than these");
+    put(bytes, 3, 4);
+    file_refused(bytes, len, 13, 0, "a file of edition 3");
+    file_refused(bytes, 48, 13, 0, "48 bytes of edition 3");
     file_refused(bytes, 47, 12, 0, "47 bytes");
     file_refused(bytes, 0, 12, 0, "no bytes");
+}
+
+/* Files of edition 1: such as it was, and a whole one of edition 2 that is said to be one. */
+static void earlier_edition(void)
+{
+    static const uint64_t offsets[6] = {48, 80, 112, 144, 176, 344};
+    struct rig rig;
+    uint8_t bytes[572], earlier[536];
+    telling_file(&rig, bytes);
+    put(bytes, 1, 4);
+    file_refused(bytes, 572, 13, 0, "a file that is said to be of edition 1");
+    memcpy(earlier, bytes, 24);
+    for (size_t i = 0; i < 6; i++)
+        put(earlier + 24 + 4 * i, offsets[i], 4);
+    memcpy(earlier + 48, bytes + 52, 488);
+    file_refused(earlier, 536, 13, 0, "a file of edition 1");
+    file_refused(earlier, 48, 13, 0, "48 bytes of it");
+    file_refused(earlier, 47, 12, 0, "47 bytes of it");
+    put(earlier + 4, 7, 4);
+    file_refused(earlier, 536, 13, 0, "one of 7 cells");
 }
 
 static void file_offsets(void)
 {
     struct rig rig;
-    uint8_t bytes[536];
-    for (size_t at = 24; at < 48; at += 4) {
+    uint8_t bytes[572];
+    for (size_t at = 24; at < 52; at++) {
         telling_file(&rig, bytes);
-        bytes[at + 3] = 1;
-        file_refused(bytes, 536, 14, 0, "an offset");
+        bytes[at] ^= 1;
+        file_refused(bytes, 572, 14, 0, "an offset");
     }
     telling_file(&rig, bytes);
     put(bytes + 16, UINT32_MAX, 4);
-    file_refused(bytes, 536, 2, 0, "counts are unsigned");
+    file_refused(bytes, 572, 2, 0, "counts are unsigned");
+}
+
+/* Dampings in the bytes of a file: signed, and each at its bounds. */
+static void file_dampings(void)
+{
+    static const uint64_t outside[] = {UINT32_MAX, 10001, 0x7fffffff, 0x80000000, 0xffff2710, 65536};
+    struct rig rig;
+    uint8_t bytes[572];
+    for (size_t cell = 1; cell <= 8; cell++) {
+        for (size_t i = 0; i < sizeof outside / sizeof *outside; i++) {
+            telling_file(&rig, bytes);
+            put(bytes + 540 + 4 * (cell - 1), outside[i], 4);
+            file_refused(bytes, 572, 38, (unsigned)cell, "a damping in a file");
+            put(bytes + 540 + 4 * 7, 10001, 4);
+            file_refused(bytes, 572, 38, (unsigned)cell, "it and one in the last cell");
+        }
+        for (uint64_t damping = 0; damping <= 10000; damping += 2500) {
+            telling_file(&rig, bytes);
+            put(bytes + 540 + 4 * (cell - 1), damping, 4);
+            check_accepted(second_read(bytes, 572, &rig.c), 0, "an allowed damping in a file");
+            check_number(rig.c.damping.at[cell - 1], (int64_t)damping, "which is read");
+        }
+    }
 }
 
 static void file_lent_rows(void)
 {
     struct rig rig, nine;
-    uint8_t bytes[536];
+    uint8_t bytes[572];
     telling_file(&rig, bytes);
     still(&nine, 9);
-    check_answer(second_read(bytes, 536, &nine.c), 1, 0, 0, 0, "rows lent for 9 cells");
+    check_answer(second_read(bytes, 572, &nine.c), 1, 0, 0, 0, "rows lent for 9 cells");
     check_answer(second_read(bytes, 500, &nine.c), 1, 0, 0, 0, "lent rows come before the length");
     check(nine.c.N == 9 && nine.c.h.at[0] == 1000, "and stay as they were");
     still(&rig, 8);
     rig.c.F.len = 8;
-    check_answer(second_read(bytes, 536, &rig.c), 1, 0, 0, 0, "one level lent for three");
+    check_answer(second_read(bytes, 572, &rig.c), 1, 0, 0, 0, "one level lent for three");
+    still(&rig, 8);
+    rig.c.damping.len = 7;
+    check_answer(second_read(bytes, 572, &rig.c), 1, 0, 0, 0, "a short damping row lent");
     still(&rig, 8);
     rig.c.N = 77;
-    check_accepted(second_read(bytes, 536, &rig.c), 0, "the lent channel's N is not read");
+    check_accepted(second_read(bytes, 572, &rig.c), 0, "the lent channel's N is not read");
 }
 
 /* Files, which no writer gives, whose time step is too long by one ms, or by one mm of a depth. */
 static void file_time_step(void)
 {
     struct rig rig;
-    uint8_t bytes[536];
+    uint8_t bytes[572];
     stepping(&rig, 20, 22, 500);
-    check_accepted(second_write(&rig.c, bytes, 536), 0, "the longest time step is written");
-    check_accepted(second_read(bytes, 536, &rig.c), 0, "and read");
+    check_accepted(second_write(&rig.c, bytes, 572), 0, "the longest time step is written");
+    check_accepted(second_read(bytes, 572, &rig.c), 0, "and read");
     bytes[12] = 23;
-    file_refused(bytes, 536, 26, 0, "a file one ms above it");
+    file_refused(bytes, 572, 26, 0, "a file one ms above it");
     stepping(&rig, 500, 100, 15280);
     rig.c.h.at[7] = 15290;
-    check_accepted(second_write(&rig.c, bytes, 536), 0, "the deepest last cell is written");
-    check_accepted(second_read(bytes, 536, &rig.c), 0, "and read");
-    put(bytes + 48 + 7 * 4, 15291, 4);
-    file_refused(bytes, 536, 26, 0, "a file whose last cell is one mm deeper");
+    check_accepted(second_write(&rig.c, bytes, 572), 0, "the deepest last cell is written");
+    check_accepted(second_read(bytes, 572, &rig.c), 0, "and read");
+    put(bytes + 52 + 7 * 4, 15291, 4);
+    file_refused(bytes, 572, 26, 0, "a file whose last cell is one mm deeper");
 }
 
 static void printed(void)
@@ -1585,12 +1880,12 @@ static void printed(void)
     still(&rig, 8);
     for (size_t j = 0; j < 8; j++)
         rig.c.e.at[j] = 7;
-    second_write(&rig.c, bytes, 536);
-    check_accepted(second_print(bytes, 536, text), 0, "a file is printed");
+    second_write(&rig.c, bytes, 572);
+    check_accepted(second_print(bytes, 572, text), 0, "a file is printed");
     check(strcmp(text, "8 0 10 open 56\n") == 0, "its line");
     rig.c.accepted = 10;
-    second_write(&rig.c, bytes, 536);
-    second_print(bytes, 536, text);
+    second_write(&rig.c, bytes, 572);
+    second_print(bytes, 572, text);
     check(strcmp(text, "8 10 10 done 56\n") == 0, "a complete file's line");
     still(&rig, 256);
     depths(&rig, 20000);
@@ -1887,6 +2182,10 @@ int main(void)
     case_2_D();
     case_3_acceleration();
     case_4_plain_part();
+    damped_slopes();
+    rounded_apart();
+    damped_quotients();
+    largest_F();
     case_5_movement();
     weights();
     newest_alone();
@@ -1923,14 +2222,20 @@ int main(void)
     first_steps();
     filtered_first_steps();
     counts_and_rows();
-    stored_u();
+    damped_calls();
+    damped_stages();
+    damped_steps();
+    stored_u(0);
+    stored_u(10000);
     pouring();
     runs();
     dry_prediction();
     dry_run();
     file_bytes();
     file_order();
+    earlier_edition();
     file_offsets();
+    file_dampings();
     file_lent_rows();
     file_time_step();
     printed();
