@@ -14,8 +14,8 @@ static double float_at(enum place place, double v, const struct work *k, size_t 
 
 __extension__ typedef __int128 wide;
 
-long ties[TIES];
-int turned = TIES;
+long ties[TIES], apart;
+int turned = TIES, at_once;
 const int tie_count = TIES;
 
 /* Counts a tie; whether it is turned. */
@@ -28,12 +28,36 @@ static bool met(enum place place, int near, bool negative, bool odd)
 
 /* A half goes to the even one of its neighbours: from zero if the one towards zero is odd. Turned, its numerator is
    one off, to the other side of it. */
-static int64_t quotient_at(enum place place, int64_t n, int64_t d)
+static int64_t turned_at(enum place place, int64_t n, int64_t d)
 {
     bool odd = n / d % 2 != 0;
     if (size_of(n % d) != d / 2 || !met(place, IS_HALF, (n < 0) != (place == MINUS_F), odd))
         return n;
     return odd == (n < 0) ? n + 1 : n - 1;
+}
+
+/* n / d, for an even d, nearest, a half going to the even number. */
+static wide nearest(wide n, wide d)
+{
+    wide q = n / d, rest = n % d, size = rest < 0 ? -rest : rest;
+    return size > d / 2 || (size == d / 2 && q % 2 != 0) ? q + (n < 0 ? -1 : 1) : q;
+}
+
+/* What the damping takes, n / d, comes directly after -F of the same cell. If both are to be rounded at once, it is
+   whatever then makes the sum right. */
+static int64_t quotient_at(enum place place, int64_t n, int64_t d)
+{
+    static int64_t minus_F, by; /* over by */
+    n = turned_at(place, n, d);
+    if (place == MINUS_F)
+        minus_F = n, by = d;
+    if (place != DAMPED)
+        return n;
+    int64_t once = (int64_t)nearest((wide)minus_F * d + (wide)n * by, (wide)by * d);
+    int64_t taken = once - (int64_t)nearest(minus_F, by);
+    bool other = taken != nearest(n, d);
+    apart += other;
+    return other && at_once ? taken * d : n;
 }
 
 /* n / d, for an even d, if it is a half; else 0. */

@@ -7,8 +7,8 @@
 #include <stdbool.h>
 
 enum place {
-    PREDICTED_W, CORRECTED_W, PREDICTED_V, CORRECTED_V, FILTERED_G, FILTERED_V, PLAIN, MINUS_F, /* quotients */
-    DISPERSIVE, SOLVED_u, MADE_V,                                                            /* floats */
+    PREDICTED_W, CORRECTED_W, PREDICTED_V, CORRECTED_V, FILTERED_G, FILTERED_V, PLAIN, MINUS_F, DAMPED, /* quotients */
+    DISPERSIVE, SOLVED_u, MADE_V,                                                                    /* floats */
     PLACES
 };
 
@@ -31,6 +31,11 @@ extern const int tie_count; /* TIES, for tests/compare/computed */
 
 /* A tie that the second program rounds the other way, or TIES: none. */
 extern int turned;
+
+/* How often F and what the damping takes from it, rounded at once, gave another number since it was last set to 0; and
+   whether the second program rounds them so. */
+extern long apart;
+extern int at_once;
 
 /* The trial's Q and F at the end of a step's prediction; whether the step comes so far. */
 bool predicted_levels(const struct second_channel *channel, struct second_read_row s, int64_t *Q, int64_t *F);

@@ -11,7 +11,7 @@ enum { CELLS = SECOND_CELLS, HEAD = 48 };
 #define POURED_MOST 1000000
 
 struct rows {
-    int64_t h[CELLS], e[CELLS], u[CELLS], V[CELLS], Q[3 * (CELLS - 1)], F[3 * CELLS];
+    int64_t h[CELLS], e[CELLS], u[CELLS], V[CELLS], Q[3 * (CELLS - 1)], F[3 * CELLS], damping[CELLS];
 };
 
 static uint64_t packed(struct second_answer a)
@@ -32,7 +32,8 @@ static bool cells_allowed(uint64_t cells)
 static struct second_channel lend(struct rows *rows, size_t N)
 {
     return (struct second_channel){.N = N, .h = {rows->h, N}, .e = {rows->e, N}, .u = {rows->u, N},
-                                   .V = {rows->V, N}, .Q = {rows->Q, 3 * (N - 1)}, .F = {rows->F, 3 * N}};
+                                   .V = {rows->V, N}, .Q = {rows->Q, 3 * (N - 1)}, .F = {rows->F, 3 * N},
+                                   .damping = {rows->damping, N}};
 }
 
 /* The second program's reader, with rows that fit the file. A file whose cells are not allowed is refused for that,
@@ -81,17 +82,20 @@ static uint64_t written(struct second_answer a, const struct second_channel *cha
 
 uint64_t by_second_make(uint64_t cells, uint64_t width_mm, uint64_t step_ms, uint64_t wanted,
                         const uint8_t *depths, size_t depths_len, const uint8_t *heights, size_t heights_len,
-                        const uint8_t *velocities, size_t velocities_len, uint8_t *file, size_t file_len)
+                        const uint8_t *velocities, size_t velocities_len, const uint8_t *dampings, size_t dampings_len,
+                        uint8_t *file, size_t file_len)
 {
     struct rows rows;
-    size_t N = (size_t)cells;
-    if (!cells_allowed(cells) || depths_len != 4 * N || heights_len != 4 * N || velocities_len != 4 * N)
+    size_t N = (size_t)cells, row_len = 4 * N;
+    if (!cells_allowed(cells) || depths_len != row_len || heights_len != row_len || velocities_len != row_len ||
+        dampings_len != row_len)
         return refused(PATHPETAL_SHAPE, 0);
     struct second_channel channel = lend(&rows, N);
     channel.X = width_mm, channel.T = step_ms, channel.wanted = wanted;
     take(rows.h, depths, N);
     take(rows.e, heights, N);
     take(rows.u, velocities, N);
+    take(rows.damping, dampings, N);
     struct second_answer a = second_make(&channel);
     if (of_input(a.number))
         return packed(a);

@@ -1,6 +1,6 @@
 -- Whole calls over rows, computed by the prover: each row of time weights, each way a step or a run ends, and a step of 24 cells.
 -- The numbers are the second program's: tests/compare/computed writes this file from tests/compare/calls.txt, and asks again in the tests.
--- A channel is its counts N, X, T, accepted, wanted and its rows h, e, u, V, Q, F; an answer is number, stage, place and count.
+-- A channel is its counts N, X, T, accepted, wanted and its rows h, e, u, V, Q, F, damping; an answer is number, stage, place and count.
 use mathlib.Core.Path.{_≡_}
 use mathlib.Core.List.{[], _∷_}
 use lib.IntN.{pos}
@@ -10,7 +10,7 @@ use Rattle.rule.specs.Channel.{Channel, channel}
 use Rattle.rule.specs.Calls.{makeCall, stepCall, filterCall, runCall, runForCall}
 use Rattle.rule.specs.Alike.{channels, alike}
 use Rattle.rule.specs.Opened.{opened}
-use Rattle.rule.specs.Computed.{answers, filter-uneven-before, onto, step-later-after, step-second-before, thrice}
+use Rattle.rule.specs.Computed.{answers, filter-uneven-before, onto, step-damping-and-poured-before, step-later-after, step-second-before, thrice}
 
 -- a channel of 9 cells over an uneven bottom
 abbrev make-uneven-before : Channel
@@ -22,6 +22,7 @@ make-uneven-before =
     (replicate 9 (pos 0))
     (replicate 24 (pos 0))
     (replicate 27 (pos 0))
+    (replicate 9 (pos 0))
 
 abbrev make-uneven-after : Channel
 make-uneven-after =
@@ -35,6 +36,7 @@ make-uneven-after =
     minus 3419647930 ∷ minus 2930424364 ∷ pos 9319554084 ∷ []))
     (thrice (pos 281362 ∷ pos 97935 ∷ minus 109698 ∷ minus 87065 ∷ pos 127120 ∷ minus 217041 ∷ pos 49729 ∷
     pos 333363 ∷ minus 221382 ∷ []))
+    (replicate 9 (pos 0))
 
 pub make-uneven : makeCall make-uneven-before ≡ answers 0 0 0 0 make-uneven-after
 unfolding opened
@@ -50,6 +52,7 @@ step-first-before =
     (step-second-before .v)
     (step-second-before .Q)
     (step-second-before .F)
+    (replicate 8 (pos 0))
 
 abbrev step-first-after : Channel
 step-first-after =
@@ -66,6 +69,7 @@ step-first-after =
     (onto (pos 45088 ∷ minus 119122 ∷ minus 20323 ∷ pos 27418 ∷ minus 12107 ∷ pos 27645 ∷ pos 51968 ∷
     pos 136803 ∷ [])
     (step-first-before .F))
+    (replicate 8 (pos 0))
 
 pub step-first : stepCall step-first-before (replicate 8 (pos 0)) ≡ answers 0 0 0 1 step-first-after
 unfolding opened
@@ -81,6 +85,7 @@ step-third-before =
     (step-second-before .v)
     (step-second-before .Q)
     (step-second-before .F)
+    (replicate 8 (pos 0))
 
 abbrev step-third-after : Channel
 step-third-after =
@@ -91,6 +96,7 @@ step-third-after =
     (step-later-after .v)
     (step-later-after .Q)
     (step-later-after .F)
+    (replicate 8 (pos 0))
 
 pub step-third : stepCall step-third-before (replicate 8 (pos 0)) ≡ answers 0 0 0 1 step-third-after
 unfolding opened
@@ -107,6 +113,7 @@ step-settled-at-once-before =
     (thrice (minus 9825487 ∷ pos 274718034 ∷ pos 22462801 ∷ minus 177580276 ∷ pos 64246671 ∷ minus 48498436 ∷
     minus 173372184 ∷ []))
     (thrice (minus 12621 ∷ pos 44205 ∷ pos 99219 ∷ pos 43373 ∷ minus 73687 ∷ minus 86965 ∷ pos 66151 ∷ pos 78447 ∷ []))
+    (replicate 8 (pos 0))
 
 abbrev step-settled-at-once-after : Channel
 step-settled-at-once-after =
@@ -120,6 +127,7 @@ step-settled-at-once-after =
     (step-settled-at-once-before .Q))
     (onto (minus 12557 ∷ pos 44171 ∷ pos 99104 ∷ pos 43405 ∷ minus 73617 ∷ minus 86936 ∷ pos 66119 ∷ pos 78409 ∷ [])
     (step-settled-at-once-before .F))
+    (replicate 8 (pos 0))
 
 pub step-settled-at-once :
     stepCall step-settled-at-once-before (replicate 8 (pos 0))
@@ -145,6 +153,7 @@ step-eight-corrections-before =
     pos 507865047973 ∷ minus 520643743132 ∷ []))
     (thrice (minus 133452 ∷ minus 4356301 ∷ pos 643982 ∷ minus 9725886 ∷ pos 6243851 ∷ pos 4631604 ∷
     minus 1616952 ∷ pos 478772 ∷ []))
+    (replicate 8 (pos 0))
 
 abbrev step-eight-corrections-after : Channel
 step-eight-corrections-after =
@@ -162,6 +171,7 @@ step-eight-corrections-after =
     (onto (minus 1365141 ∷ pos 11071980 ∷ pos 19534794 ∷ minus 25196770 ∷ minus 11226561 ∷ minus 6127006 ∷
     pos 8352100 ∷ pos 23923537 ∷ [])
     (step-eight-corrections-before .F))
+    (replicate 8 (pos 0))
 
 pub step-eight-corrections :
     stepCall step-eight-corrections-before (replicate 8 (pos 0))
@@ -186,6 +196,7 @@ step-unsettled-before =
     minus 486051833660 ∷ minus 401277968492 ∷ minus 275798803352 ∷ []))
     (thrice (pos 531372 ∷ minus 913784 ∷ minus 12373482 ∷ minus 4708053 ∷ pos 3640149 ∷ pos 1608299 ∷
     pos 2963801 ∷ pos 2428145 ∷ []))
+    (replicate 8 (pos 0))
 
 pub step-unsettled : stepCall step-unsettled-before (replicate 8 (pos 0)) ≡ answers 10 10 0 0 step-unsettled-before
 unfolding opened
@@ -208,6 +219,7 @@ step-dry-at-a-correction-before =
     pos 59083855816 ∷ pos 52072900967 ∷ []))
     (thrice (minus 10068382 ∷ pos 852225 ∷ minus 2420927 ∷ pos 3258333 ∷ pos 2429950 ∷ minus 6177337 ∷
     pos 458076 ∷ pos 5778191 ∷ []))
+    (replicate 8 (pos 0))
 
 abbrev step-dry-at-a-correction-poured : Row
 step-dry-at-a-correction-poured =
@@ -236,6 +248,7 @@ step-too-fast-before =
     minus 10815049437776 ∷ pos 7741729625876 ∷ minus 30125587851494 ∷ []))
     (thrice (pos 4541701 ∷ minus 116572435 ∷ pos 8025421 ∷ pos 127609264 ∷ pos 212699 ∷ minus 35128762 ∷
     minus 61981243 ∷ pos 88458452 ∷ []))
+    (replicate 8 (pos 0))
 
 pub step-too-fast : stepCall step-too-fast-before (replicate 8 (pos 0)) ≡ answers 7 1 0 0 step-too-fast-before
 unfolding opened
@@ -262,6 +275,7 @@ make-wide-before =
     (replicate 24 (pos 0))
     (replicate 69 (pos 0))
     (replicate 72 (pos 0))
+    (replicate 24 (pos 0))
 
 abbrev make-wide-after : Channel
 make-wide-after =
@@ -282,6 +296,7 @@ make-wide-after =
     pos 284678 ∷ minus 154545 ∷ minus 8184 ∷ minus 209166 ∷ minus 188835 ∷ pos 351345 ∷ pos 131860 ∷
     minus 33523 ∷ pos 60058 ∷ minus 224520 ∷ minus 119783 ∷ minus 64024 ∷ pos 211746 ∷ minus 3979 ∷
     minus 315089 ∷ pos 160530 ∷ pos 157926 ∷ []))
+    (replicate 24 (pos 0))
 
 pub make-wide : makeCall make-wide-before ≡ answers 0 0 0 0 make-wide-after
 unfolding opened
@@ -315,6 +330,7 @@ step-wide-after =
     minus 17183 ∷ pos 44974 ∷ minus 199129 ∷ minus 120830 ∷ minus 96081 ∷ pos 186767 ∷ pos 42980 ∷
     minus 317663 ∷ pos 134011 ∷ pos 172372 ∷ [])
     (make-wide-after .F))
+    (replicate 24 (pos 0))
 
 abbrev step-wide-poured : Row
 step-wide-poured =
@@ -336,6 +352,7 @@ make-by-hand-before =
     (replicate 8 (pos 0))
     (replicate 21 (pos 0))
     (replicate 24 (pos 0))
+    (replicate 8 (pos 0))
 
 abbrev make-by-hand-after : Channel
 make-by-hand-after =
@@ -346,6 +363,7 @@ make-by-hand-after =
     (replicate 8 (pos 0))
     (replicate 21 (pos 0))
     (thrice (pos 0 ∷ pos 9810 ∷ minus 78480 ∷ pos 0 ∷ pos 78480 ∷ minus 9810 ∷ pos 0 ∷ pos 0 ∷ []))
+    (replicate 8 (pos 0))
 
 pub make-by-hand : makeCall make-by-hand-before ≡ answers 0 0 0 0 make-by-hand-after
 unfolding opened
@@ -364,6 +382,7 @@ step-by-hand-after =
     (make-by-hand-after .Q))
     (onto (minus 306 ∷ pos 9720 ∷ minus 77692 ∷ pos 0 ∷ pos 77692 ∷ minus 9718 ∷ pos 260 ∷ minus 47 ∷ [])
     (make-by-hand-after .F))
+    (replicate 8 (pos 0))
 
 pub step-by-hand : stepCall make-by-hand-after (replicate 8 (pos 0)) ≡ answers 0 0 0 3 step-by-hand-after
 unfolding opened
@@ -382,6 +401,7 @@ make-tank-before =
     (replicate 8 (pos 0))
     (replicate 21 (pos 0))
     (replicate 24 (pos 0))
+    (replicate 8 (pos 0))
 
 abbrev make-tank-after : Channel
 make-tank-after =
@@ -392,6 +412,7 @@ make-tank-after =
     (replicate 8 (pos 0))
     (replicate 21 (pos 0))
     (thrice (pos 0 ∷ pos 0 ∷ pos 0 ∷ pos 0 ∷ pos 0 ∷ pos 40875 ∷ minus 286125 ∷ minus 327000 ∷ []))
+    (replicate 8 (pos 0))
 
 pub make-tank : makeCall make-tank-before ≡ answers 0 0 0 0 make-tank-after
 unfolding opened
@@ -408,6 +429,7 @@ filter-too-high-before =
     (replicate 8 (pos 0))
     (replicate 21 (pos 0))
     (replicate 24 (pos 0))
+    (replicate 8 (pos 0))
 
 pub filter-too-high : filterCall filter-too-high-before ≡ answers 8 0 0 0 filter-too-high-before
 unfolding opened
@@ -423,6 +445,7 @@ make-depth-and-height-before =
     (replicate 8 (pos 0))
     (replicate 21 (pos 0))
     (replicate 24 (pos 0))
+    (replicate 8 (pos 0))
 
 pub make-depth-and-height : makeCall make-depth-and-height-before ≡ answers 31 0 6 0 make-depth-and-height-before
 unfolding opened
@@ -443,6 +466,7 @@ step-two-levels-before =
     (onto (pos 0 ∷ minus 1000000000000001 ∷ pos 0 ∷ pos 0 ∷ pos 0 ∷ pos 0 ∷ pos 0 ∷ [])
     (make-depth-and-height-before .Q)))
     (replicate 24 (pos 0))
+    (replicate 8 (pos 0))
 
 pub step-two-levels :
     stepCall step-two-levels-before (replicate 8 (pos 0))
@@ -465,6 +489,7 @@ step-oldest-level-before =
     pos 0 ∷ pos 0 ∷ pos 0 ∷ pos 0 ∷ pos 0 ∷ pos 0 ∷ pos 0 ∷
     pos 0 ∷ pos 0 ∷ pos 0 ∷ pos 0 ∷ minus 1000000000000001 ∷ pos 0 ∷ pos 0 ∷ [])
     (replicate 24 (pos 0))
+    (replicate 8 (pos 0))
 
 pub step-oldest-level :
     stepCall step-oldest-level-before (replicate 8 (pos 0))
@@ -474,6 +499,48 @@ step-oldest-level =
     alike channels
     (stepCall step-oldest-level-before (replicate 8 (pos 0)))
     (answers 35 0 5 0 step-oldest-level-before) tt
+
+-- an acceleration out of range in the oldest level (36) is told before a damping out of range
+abbrev step-level-and-damping-before : Channel
+step-level-and-damping-before =
+    channel 8 1000 20 0 10
+    (replicate 8 (pos 300))
+    (replicate 8 (pos 0))
+    (replicate 8 (pos 0))
+    (replicate 8 (pos 0))
+    (replicate 21 (pos 0))
+    (pos 0 ∷ pos 0 ∷ pos 0 ∷ pos 0 ∷ pos 0 ∷ pos 0 ∷ pos 0 ∷ pos 0 ∷
+    pos 0 ∷ pos 0 ∷ pos 0 ∷ pos 0 ∷ pos 0 ∷ pos 0 ∷ pos 0 ∷ pos 0 ∷
+    pos 0 ∷ pos 0 ∷ pos 0 ∷ pos 0 ∷ pos 0 ∷ pos 0 ∷ pos 0 ∷ pos 100000000001 ∷ [])
+    (pos 10001 ∷ pos 0 ∷ pos 0 ∷ pos 0 ∷ pos 0 ∷ pos 0 ∷ pos 0 ∷ pos 0 ∷ [])
+
+pub step-level-and-damping :
+    stepCall step-level-and-damping-before (replicate 8 (pos 0))
+    ≡ answers 36 0 8 0 step-level-and-damping-before
+unfolding opened
+step-level-and-damping =
+    alike channels
+    (stepCall step-level-and-damping-before (replicate 8 (pos 0)))
+    (answers 36 0 8 0 step-level-and-damping-before) tt
+
+-- a damping out of range in cell 7 (38) is told before a cell with too little water (4)
+abbrev make-damping-and-dry-before : Channel
+make-damping-and-dry-before =
+    channel 8 1000 20 0 10
+    (replicate 8 (pos 300))
+    (step-damping-and-poured-before .e)
+    (replicate 8 (pos 0))
+    (replicate 8 (pos 0))
+    (replicate 21 (pos 0))
+    (replicate 24 (pos 0))
+    (pos 0 ∷ pos 0 ∷ pos 0 ∷ pos 0 ∷ pos 0 ∷ pos 0 ∷ pos 10001 ∷ pos 0 ∷ [])
+
+pub make-damping-and-dry : makeCall make-damping-and-dry-before ≡ answers 38 0 7 0 make-damping-and-dry-before
+unfolding opened
+make-damping-and-dry =
+    alike channels
+    (makeCall make-damping-and-dry-before)
+    (answers 38 0 7 0 make-damping-and-dry-before) tt
 
 -- cells 3 and 6 fall dry in the prediction: the lower one is told
 abbrev step-dry-cells-before : Channel
@@ -485,6 +552,7 @@ step-dry-cells-before =
     (replicate 8 (pos 0))
     (thrice (pos 0 ∷ pos 0 ∷ pos 1000000000 ∷ pos 0 ∷ pos 0 ∷ pos 1000000000 ∷ pos 0 ∷ []))
     (replicate 24 (pos 0))
+    (replicate 8 (pos 0))
 
 pub step-dry-cells : stepCall step-dry-cells-before (replicate 8 (pos 0)) ≡ answers 4 0 3 0 step-dry-cells-before
 unfolding opened
@@ -510,6 +578,7 @@ run-paused-before =
     pos 328930189 ∷ []))
     (thrice (minus 52808 ∷ minus 72691 ∷ pos 34000 ∷ pos 23533 ∷ minus 73520 ∷ pos 68513 ∷ minus 1294 ∷
     minus 112974 ∷ []))
+    (replicate 8 (pos 0))
 
 abbrev run-paused-after : Channel
 run-paused-after =
@@ -528,6 +597,7 @@ run-paused-after =
     (onto (minus 52722 ∷ minus 72640 ∷ pos 33937 ∷ pos 23520 ∷ minus 73453 ∷ pos 68510 ∷ minus 1350 ∷
     minus 112975 ∷ [])
     (run-paused-before .F)))
+    (replicate 8 (pos 0))
 
 pub run-paused : runForCall 2 run-paused-before ≡ answers 16 0 0 2 run-paused-after
 unfolding opened
@@ -547,6 +617,7 @@ run-complete-after =
     (onto (minus 52245 ∷ minus 72216 ∷ pos 33460 ∷ pos 23438 ∷ minus 72948 ∷ pos 68046 ∷ minus 1412 ∷
     minus 112377 ∷ [])
     (run-paused-after .F))
+    (replicate 8 (pos 0))
 
 pub run-complete : runCall run-paused-before ≡ answers 0 0 0 3 run-complete-after
 unfolding opened

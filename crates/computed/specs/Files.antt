@@ -1,6 +1,6 @@
 -- Whole calls over the bytes of a file, computed by the prover: written, read, printed, made, stepped, filtered, run; and three steps one by one and in a run.
 -- The numbers are the second program's: tests/compare/computed writes this file from tests/compare/calls.txt, and asks again in the tests.
--- A channel is its counts N, X, T, accepted, wanted and its rows h, e, u, V, Q, F; an answer is number, stage, place and count.
+-- A channel is its counts N, X, T, accepted, wanted and its rows h, e, u, V, Q, F, damping; an answer is number, stage, place and count.
 use Prim.Native.Nat.{ℕ, _+_}
 use mathlib.Core.Path.{_≡_, refl}
 use mathlib.Core.List.{List, [], _∷_, _++_}
@@ -21,9 +21,13 @@ use Rattle.rule.specs.Computed.{answers, onto, thrice}
 abbrev says : ℕ → ℕ → ℕ → ℕ → Answer
 says number stage place count = record { number = number; stage = stage; place = place; count = count }
 
--- a file: its counts, where its rows stand, and its rows h, e, u, V, Q, F
-abbrev assembled : List ℕ → List ℕ → List ℕ → List ℕ → List ℕ → List ℕ → List ℕ → List ℕ → List ℕ
-assembled counts places h e u v Q F = counts ++ (places ++ (h ++ (e ++ (u ++ (v ++ (Q ++ F))))))
+-- a file: its counts, where its rows stand, and its rows h, e, u, V, Q, F, damping
+abbrev assembled : List ℕ → List ℕ → List ℕ → List ℕ → List ℕ → List ℕ → List ℕ → List ℕ → List ℕ → List ℕ
+assembled counts places h e u v Q F damping = counts ++ (places ++ (h ++ (e ++ (u ++ (v ++ (Q ++ (F ++ damping)))))))
+
+-- so many bytes of a file, from a place on
+abbrev part : ℕ → ℕ → List ℕ → List ℕ
+part place count file = take count (drop place file)
 
 -- a file with other bytes from a place on
 abbrev replaced : ℕ → List ℕ → List ℕ → List ℕ
@@ -32,14 +36,14 @@ replaced place new file = take place file ++ (new ++ drop (place + length new) f
 -- where the rows of 8 cells stand in a file
 abbrev places-of-8 : List ℕ
 places-of-8 =
-    48 ∷ 0 ∷ 0 ∷ 0 ∷ 80 ∷ 0 ∷ 0 ∷ 0 ∷ 112 ∷ 0 ∷ 0 ∷ 0 ∷ 144 ∷ 0 ∷ 0 ∷ 0 ∷
-    176 ∷ 0 ∷ 0 ∷ 0 ∷ 88 ∷ 1 ∷ 0 ∷ 0 ∷ []
+    52 ∷ 0 ∷ 0 ∷ 0 ∷ 84 ∷ 0 ∷ 0 ∷ 0 ∷ 116 ∷ 0 ∷ 0 ∷ 0 ∷ 148 ∷ 0 ∷ 0 ∷ 0 ∷
+    180 ∷ 0 ∷ 0 ∷ 0 ∷ 92 ∷ 1 ∷ 0 ∷ 0 ∷ 28 ∷ 2 ∷ 0 ∷ 0 ∷ []
 
 -- the file of a channel
 abbrev write-uneven-file : List ℕ
 write-uneven-file =
     assembled
-    (1 ∷ 0 ∷ 0 ∷ 0 ∷ 8 ∷ 0 ∷ 0 ∷ 0 ∷ 232 ∷ 3 ∷ 0 ∷ 0 ∷ 20 ∷ 0 ∷ 0 ∷ 0 ∷
+    (2 ∷ 0 ∷ 0 ∷ 0 ∷ 8 ∷ 0 ∷ 0 ∷ 0 ∷ 232 ∷ 3 ∷ 0 ∷ 0 ∷ 20 ∷ 0 ∷ 0 ∷ 0 ∷
     0 ∷ 0 ∷ 0 ∷ 0 ∷ 3 ∷ 0 ∷ 0 ∷ 0 ∷ [])
     places-of-8
     (67 ∷ 1 ∷ 0 ∷ 0 ∷ 43 ∷ 1 ∷ 0 ∷ 0 ∷ 63 ∷ 1 ∷ 0 ∷ 0 ∷ 74 ∷ 1 ∷ 0 ∷ 0 ∷
@@ -58,12 +62,13 @@ write-uneven-file =
     208 ∷ 132 ∷ 0 ∷ 0 ∷ 0 ∷ 0 ∷ 0 ∷ 0 ∷ 237 ∷ 91 ∷ 0 ∷ 0 ∷ 0 ∷ 0 ∷ 0 ∷ 0 ∷
     208 ∷ 224 ∷ 254 ∷ 255 ∷ 255 ∷ 255 ∷ 255 ∷ 255 ∷ 161 ∷ 11 ∷ 1 ∷ 0 ∷ 0 ∷ 0 ∷ 0 ∷ 0 ∷
     242 ∷ 250 ∷ 255 ∷ 255 ∷ 255 ∷ 255 ∷ 255 ∷ 255 ∷ 178 ∷ 70 ∷ 254 ∷ 255 ∷ 255 ∷ 255 ∷ 255 ∷ 255 ∷ []))
+    (replicate 32 0)
 
-pub write-uneven : writeCall run-paused-before (replicate 536 0) ≡ answers 0 0 0 0 write-uneven-file
+pub write-uneven : writeCall run-paused-before (replicate 572 0) ≡ answers 0 0 0 0 write-uneven-file
 unfolding opened
 write-uneven =
     alike (lists counts)
-    (writeCall run-paused-before (replicate 536 0))
+    (writeCall run-paused-before (replicate 572 0))
     (answers 0 0 0 0 write-uneven-file) tt
 
 -- and the channel of that file
@@ -81,6 +86,7 @@ print-open-before =
     (replicate 8 (pos 0))
     (replicate 21 (pos 0))
     (replicate 24 (pos 0))
+    (replicate 8 (pos 0))
 
 -- "8 0 10 open 56" and a newline
 abbrev print-open-line : List ℕ
@@ -100,6 +106,7 @@ print-done-before =
     (replicate 9 (pos 0))
     (replicate 24 (pos 0))
     (replicate 27 (pos 0))
+    (replicate 9 (pos 0))
 
 -- "9 1000000 1000000 done -30999996" and a newline
 abbrev print-done-line : List ℕ
@@ -122,6 +129,7 @@ print-refused-before =
     (replicate 8 (pos 0))
     (replicate 21 (pos 0))
     (replicate 24 (pos 0))
+    (replicate 8 (pos 0))
 
 -- "refused 2" and a newline
 abbrev print-refused-line : List ℕ
@@ -131,7 +139,7 @@ pub print-refused : printFile (fileOf print-refused-before) ≡ print-refused-li
 unfolding opened
 print-refused = lists counts .sound (printFile (fileOf print-refused-before)) print-refused-line tt
 
--- from the bytes of three rows to the bytes of a file
+-- from the bytes of the rows to the bytes of a file
 abbrev file-made-depths : List ℕ
 file-made-depths =
     54 ∷ 1 ∷ 0 ∷ 0 ∷ 96 ∷ 1 ∷ 0 ∷ 0 ∷ 42 ∷ 1 ∷ 0 ∷ 0 ∷ 149 ∷ 1 ∷ 0 ∷ 0 ∷
@@ -150,7 +158,7 @@ file-made-velocities =
 abbrev file-made-after : List ℕ
 file-made-after =
     assembled
-    (1 ∷ 0 ∷ 0 ∷ 0 ∷ 8 ∷ 0 ∷ 0 ∷ 0 ∷ 244 ∷ 1 ∷ 0 ∷ 0 ∷ 50 ∷ 0 ∷ 0 ∷ 0 ∷
+    (2 ∷ 0 ∷ 0 ∷ 0 ∷ 8 ∷ 0 ∷ 0 ∷ 0 ∷ 244 ∷ 1 ∷ 0 ∷ 0 ∷ 50 ∷ 0 ∷ 0 ∷ 0 ∷
     0 ∷ 0 ∷ 0 ∷ 0 ∷ 4 ∷ 0 ∷ 0 ∷ 0 ∷ [])
     places-of-8
     file-made-depths
@@ -166,25 +174,26 @@ file-made-after =
     126 ∷ 83 ∷ 254 ∷ 255 ∷ 255 ∷ 255 ∷ 255 ∷ 255 ∷ 231 ∷ 171 ∷ 254 ∷ 255 ∷ 255 ∷ 255 ∷ 255 ∷ 255 ∷
     144 ∷ 240 ∷ 1 ∷ 0 ∷ 0 ∷ 0 ∷ 0 ∷ 0 ∷ 47 ∷ 176 ∷ 252 ∷ 255 ∷ 255 ∷ 255 ∷ 255 ∷ 255 ∷
     126 ∷ 115 ∷ 0 ∷ 0 ∷ 0 ∷ 0 ∷ 0 ∷ 0 ∷ 226 ∷ 45 ∷ 8 ∷ 0 ∷ 0 ∷ 0 ∷ 0 ∷ 0 ∷ []))
+    (replicate 32 0)
 
 pub file-made :
-    makeFile 8 500 50 4 file-made-depths file-made-heights file-made-velocities (replicate 536 0)
+    makeFile 8 500 50 4 file-made-depths file-made-heights file-made-velocities (replicate 32 0) (replicate 572 0)
     ≡ answers 0 0 0 0 file-made-after
 unfolding opened
 file-made =
     alike (lists counts)
-    (makeFile 8 500 50 4 file-made-depths file-made-heights file-made-velocities (replicate 536 0))
+    (makeFile 8 500 50 4 file-made-depths file-made-heights file-made-velocities (replicate 32 0) (replicate 572 0))
     (answers 0 0 0 0 file-made-after) tt
 
 -- a buffer that is one byte short is refused with 15, and left as it was
 pub file-no-room :
-    makeFile 8 500 50 4 file-made-depths file-made-heights file-made-velocities (replicate 535 0)
-    ≡ answers 15 0 0 0 (replicate 535 0)
+    makeFile 8 500 50 4 file-made-depths file-made-heights file-made-velocities (replicate 32 0) (replicate 571 0)
+    ≡ answers 15 0 0 0 (replicate 571 0)
 unfolding opened
 file-no-room =
     alike (lists counts)
-    (makeFile 8 500 50 4 file-made-depths file-made-heights file-made-velocities (replicate 535 0))
-    (answers 15 0 0 0 (replicate 535 0)) tt
+    (makeFile 8 500 50 4 file-made-depths file-made-heights file-made-velocities (replicate 32 0) (replicate 571 0))
+    (answers 15 0 0 0 (replicate 571 0)) tt
 
 -- a dry cell (4) is told before a buffer of the wrong length (15)
 abbrev file-dry-no-room-heights : List ℕ
@@ -193,13 +202,13 @@ file-dry-no-room-heights =
     176 ∷ 38 ∷ 0 ∷ 0 ∷ 165 ∷ 228 ∷ 255 ∷ 255 ∷ 169 ∷ 97 ∷ 0 ∷ 0 ∷ 39 ∷ 196 ∷ 250 ∷ 255 ∷ []
 
 pub file-dry-no-room :
-    makeFile 8 500 50 4 file-made-depths file-dry-no-room-heights file-made-velocities (replicate 535 0)
-    ≡ answers 4 0 8 0 (replicate 535 0)
+    makeFile 8 500 50 4 file-made-depths file-dry-no-room-heights file-made-velocities (replicate 32 0) (replicate 571 0)
+    ≡ answers 4 0 8 0 (replicate 571 0)
 unfolding opened
 file-dry-no-room =
     alike (lists counts)
-    (makeFile 8 500 50 4 file-made-depths file-dry-no-room-heights file-made-velocities (replicate 535 0))
-    (answers 4 0 8 0 (replicate 535 0)) tt
+    (makeFile 8 500 50 4 file-made-depths file-dry-no-room-heights file-made-velocities (replicate 32 0) (replicate 571 0))
+    (answers 4 0 8 0 (replicate 571 0)) tt
 
 -- the file that was made, after a step with a poured row
 abbrev file-stepped-poured : List ℕ
@@ -210,7 +219,7 @@ file-stepped-poured =
 abbrev file-stepped-after : List ℕ
 file-stepped-after =
     assembled
-    (1 ∷ 0 ∷ 0 ∷ 0 ∷ 8 ∷ 0 ∷ 0 ∷ 0 ∷ 244 ∷ 1 ∷ 0 ∷ 0 ∷ 50 ∷ 0 ∷ 0 ∷ 0 ∷
+    (2 ∷ 0 ∷ 0 ∷ 0 ∷ 8 ∷ 0 ∷ 0 ∷ 0 ∷ 244 ∷ 1 ∷ 0 ∷ 0 ∷ 50 ∷ 0 ∷ 0 ∷ 0 ∷
     1 ∷ 0 ∷ 0 ∷ 0 ∷ 4 ∷ 0 ∷ 0 ∷ 0 ∷ [])
     places-of-8
     file-made-depths
@@ -224,12 +233,13 @@ file-stepped-after =
     106 ∷ 157 ∷ 137 ∷ 115 ∷ 2 ∷ 0 ∷ 0 ∷ 0 ∷ 5 ∷ 55 ∷ 194 ∷ 26 ∷ 2 ∷ 0 ∷ 0 ∷ 0 ∷
     121 ∷ 120 ∷ 241 ∷ 113 ∷ 255 ∷ 255 ∷ 255 ∷ 255 ∷ 201 ∷ 26 ∷ 8 ∷ 215 ∷ 254 ∷ 255 ∷ 255 ∷ 255 ∷
     176 ∷ 162 ∷ 147 ∷ 174 ∷ 0 ∷ 0 ∷ 0 ∷ 0 ∷ [])
-    (drop 176 file-made-after))
+    (drop 180 file-made-after))
     (onto (38 ∷ 48 ∷ 4 ∷ 0 ∷ 0 ∷ 0 ∷ 0 ∷ 0 ∷ 18 ∷ 216 ∷ 1 ∷ 0 ∷ 0 ∷ 0 ∷ 0 ∷ 0 ∷
     173 ∷ 86 ∷ 254 ∷ 255 ∷ 255 ∷ 255 ∷ 255 ∷ 255 ∷ 241 ∷ 66 ∷ 254 ∷ 255 ∷ 255 ∷ 255 ∷ 255 ∷ 255 ∷
     90 ∷ 58 ∷ 2 ∷ 0 ∷ 0 ∷ 0 ∷ 0 ∷ 0 ∷ 68 ∷ 1 ∷ 253 ∷ 255 ∷ 255 ∷ 255 ∷ 255 ∷ 255 ∷
     188 ∷ 66 ∷ 0 ∷ 0 ∷ 0 ∷ 0 ∷ 0 ∷ 0 ∷ 1 ∷ 231 ∷ 7 ∷ 0 ∷ 0 ∷ 0 ∷ 0 ∷ 0 ∷ [])
-    (drop 344 file-made-after))
+    (drop 348 file-made-after))
+    (replicate 32 0)
 
 pub file-stepped : stepFile file-made-after file-stepped-poured ≡ answers 0 0 0 3 file-stepped-after
 unfolding opened
@@ -242,7 +252,7 @@ file-stepped =
 abbrev file-filtered-after : List ℕ
 file-filtered-after =
     assembled
-    (1 ∷ 0 ∷ 0 ∷ 0 ∷ 8 ∷ 0 ∷ 0 ∷ 0 ∷ 244 ∷ 1 ∷ 0 ∷ 0 ∷ 50 ∷ 0 ∷ 0 ∷ 0 ∷
+    (2 ∷ 0 ∷ 0 ∷ 0 ∷ 8 ∷ 0 ∷ 0 ∷ 0 ∷ 244 ∷ 1 ∷ 0 ∷ 0 ∷ 50 ∷ 0 ∷ 0 ∷ 0 ∷
     1 ∷ 0 ∷ 0 ∷ 0 ∷ 4 ∷ 0 ∷ 0 ∷ 0 ∷ [])
     places-of-8
     file-made-depths
@@ -256,12 +266,13 @@ file-filtered-after =
     3 ∷ 33 ∷ 30 ∷ 12 ∷ 2 ∷ 0 ∷ 0 ∷ 0 ∷ 85 ∷ 189 ∷ 51 ∷ 57 ∷ 2 ∷ 0 ∷ 0 ∷ 0 ∷
     186 ∷ 104 ∷ 0 ∷ 105 ∷ 255 ∷ 255 ∷ 255 ∷ 255 ∷ 121 ∷ 19 ∷ 137 ∷ 2 ∷ 255 ∷ 255 ∷ 255 ∷ 255 ∷
     171 ∷ 87 ∷ 20 ∷ 122 ∷ 0 ∷ 0 ∷ 0 ∷ 0 ∷ [])
-    (drop 176 file-made-after))
+    (drop 180 file-made-after))
     (onto (85 ∷ 229 ∷ 2 ∷ 0 ∷ 0 ∷ 0 ∷ 0 ∷ 0 ∷ 45 ∷ 144 ∷ 2 ∷ 0 ∷ 0 ∷ 0 ∷ 0 ∷ 0 ∷
     227 ∷ 228 ∷ 253 ∷ 255 ∷ 255 ∷ 255 ∷ 255 ∷ 255 ∷ 101 ∷ 27 ∷ 255 ∷ 255 ∷ 255 ∷ 255 ∷ 255 ∷ 255 ∷
     37 ∷ 16 ∷ 1 ∷ 0 ∷ 0 ∷ 0 ∷ 0 ∷ 0 ∷ 13 ∷ 99 ∷ 253 ∷ 255 ∷ 255 ∷ 255 ∷ 255 ∷ 255 ∷
     211 ∷ 206 ∷ 1 ∷ 0 ∷ 0 ∷ 0 ∷ 0 ∷ 0 ∷ 129 ∷ 153 ∷ 4 ∷ 0 ∷ 0 ∷ 0 ∷ 0 ∷ 0 ∷ [])
-    (drop 344 file-made-after))
+    (drop 348 file-made-after))
+    (replicate 32 0)
 
 pub file-filtered : filterFile file-stepped-after ≡ answers 0 0 0 0 file-filtered-after
 unfolding opened
@@ -271,7 +282,7 @@ file-filtered = alike (lists counts) (filterFile file-stepped-after) (answers 0 
 abbrev file-paused-after : List ℕ
 file-paused-after =
     assembled
-    (1 ∷ 0 ∷ 0 ∷ 0 ∷ 8 ∷ 0 ∷ 0 ∷ 0 ∷ 244 ∷ 1 ∷ 0 ∷ 0 ∷ 50 ∷ 0 ∷ 0 ∷ 0 ∷
+    (2 ∷ 0 ∷ 0 ∷ 0 ∷ 8 ∷ 0 ∷ 0 ∷ 0 ∷ 244 ∷ 1 ∷ 0 ∷ 0 ∷ 50 ∷ 0 ∷ 0 ∷ 0 ∷
     3 ∷ 0 ∷ 0 ∷ 0 ∷ 4 ∷ 0 ∷ 0 ∷ 0 ∷ [])
     places-of-8
     file-made-depths
@@ -289,7 +300,7 @@ file-paused-after =
     43 ∷ 19 ∷ 154 ∷ 162 ∷ 1 ∷ 0 ∷ 0 ∷ 0 ∷ 40 ∷ 133 ∷ 140 ∷ 52 ∷ 2 ∷ 0 ∷ 0 ∷ 0 ∷
     115 ∷ 197 ∷ 169 ∷ 57 ∷ 255 ∷ 255 ∷ 255 ∷ 255 ∷ 243 ∷ 157 ∷ 226 ∷ 236 ∷ 254 ∷ 255 ∷ 255 ∷ 255 ∷
     189 ∷ 105 ∷ 40 ∷ 65 ∷ 1 ∷ 0 ∷ 0 ∷ 0 ∷ [])
-    (drop 176 file-filtered-after)))
+    (drop 180 file-filtered-after)))
     (onto (66 ∷ 183 ∷ 2 ∷ 0 ∷ 0 ∷ 0 ∷ 0 ∷ 0 ∷ 172 ∷ 226 ∷ 2 ∷ 0 ∷ 0 ∷ 0 ∷ 0 ∷ 0 ∷
     235 ∷ 41 ∷ 254 ∷ 255 ∷ 255 ∷ 255 ∷ 255 ∷ 255 ∷ 13 ∷ 60 ∷ 254 ∷ 255 ∷ 255 ∷ 255 ∷ 255 ∷ 255 ∷
     100 ∷ 232 ∷ 0 ∷ 0 ∷ 0 ∷ 0 ∷ 0 ∷ 0 ∷ 85 ∷ 85 ∷ 254 ∷ 255 ∷ 255 ∷ 255 ∷ 255 ∷ 255 ∷
@@ -298,7 +309,8 @@ file-paused-after =
     105 ∷ 251 ∷ 253 ∷ 255 ∷ 255 ∷ 255 ∷ 255 ∷ 255 ∷ 182 ∷ 168 ∷ 254 ∷ 255 ∷ 255 ∷ 255 ∷ 255 ∷ 255 ∷
     84 ∷ 0 ∷ 1 ∷ 0 ∷ 0 ∷ 0 ∷ 0 ∷ 0 ∷ 168 ∷ 208 ∷ 253 ∷ 255 ∷ 255 ∷ 255 ∷ 255 ∷ 255 ∷
     246 ∷ 188 ∷ 1 ∷ 0 ∷ 0 ∷ 0 ∷ 0 ∷ 0 ∷ 224 ∷ 87 ∷ 4 ∷ 0 ∷ 0 ∷ 0 ∷ 0 ∷ 0 ∷ [])
-    (drop 344 file-filtered-after)))
+    (drop 348 file-filtered-after)))
+    (replicate 32 0)
 
 pub file-paused : runForFile 2 file-filtered-after ≡ answers 16 0 0 2 file-paused-after
 unfolding opened
@@ -308,7 +320,7 @@ file-paused = alike (lists counts) (runForFile 2 file-filtered-after) (answers 1
 abbrev file-complete-after : List ℕ
 file-complete-after =
     assembled
-    (1 ∷ 0 ∷ 0 ∷ 0 ∷ 8 ∷ 0 ∷ 0 ∷ 0 ∷ 244 ∷ 1 ∷ 0 ∷ 0 ∷ 50 ∷ 0 ∷ 0 ∷ 0 ∷
+    (2 ∷ 0 ∷ 0 ∷ 0 ∷ 8 ∷ 0 ∷ 0 ∷ 0 ∷ 244 ∷ 1 ∷ 0 ∷ 0 ∷ 50 ∷ 0 ∷ 0 ∷ 0 ∷
     4 ∷ 0 ∷ 0 ∷ 0 ∷ 4 ∷ 0 ∷ 0 ∷ 0 ∷ [])
     places-of-8
     file-made-depths
@@ -322,12 +334,13 @@ file-complete-after =
     210 ∷ 53 ∷ 75 ∷ 172 ∷ 0 ∷ 0 ∷ 0 ∷ 0 ∷ 195 ∷ 68 ∷ 157 ∷ 240 ∷ 1 ∷ 0 ∷ 0 ∷ 0 ∷
     65 ∷ 177 ∷ 211 ∷ 7 ∷ 255 ∷ 255 ∷ 255 ∷ 255 ∷ 15 ∷ 85 ∷ 94 ∷ 218 ∷ 254 ∷ 255 ∷ 255 ∷ 255 ∷
     252 ∷ 95 ∷ 120 ∷ 173 ∷ 2 ∷ 0 ∷ 0 ∷ 0 ∷ [])
-    (drop 176 file-paused-after))
+    (drop 180 file-paused-after))
     (onto (110 ∷ 114 ∷ 2 ∷ 0 ∷ 0 ∷ 0 ∷ 0 ∷ 0 ∷ 175 ∷ 226 ∷ 2 ∷ 0 ∷ 0 ∷ 0 ∷ 0 ∷ 0 ∷
     59 ∷ 110 ∷ 254 ∷ 255 ∷ 255 ∷ 255 ∷ 255 ∷ 255 ∷ 198 ∷ 221 ∷ 253 ∷ 255 ∷ 255 ∷ 255 ∷ 255 ∷ 255 ∷
     37 ∷ 197 ∷ 0 ∷ 0 ∷ 0 ∷ 0 ∷ 0 ∷ 0 ∷ 57 ∷ 237 ∷ 254 ∷ 255 ∷ 255 ∷ 255 ∷ 255 ∷ 255 ∷
     114 ∷ 102 ∷ 1 ∷ 0 ∷ 0 ∷ 0 ∷ 0 ∷ 0 ∷ 4 ∷ 108 ∷ 3 ∷ 0 ∷ 0 ∷ 0 ∷ 0 ∷ 0 ∷ [])
-    (drop 344 file-paused-after))
+    (drop 348 file-paused-after))
+    (replicate 32 0)
 
 pub file-complete : runForFile 1000 file-paused-after ≡ answers 0 0 0 1 file-complete-after
 unfolding opened
@@ -359,7 +372,7 @@ file-already-complete =
 
 -- a poured amount beyond 1,000,000 is told (37) before a dry cell of the file (4)
 abbrev dry-file : List ℕ
-dry-file = replaced 80 (0 ∷ 0 ∷ 236 ∷ 255 ∷ []) file-made-after
+dry-file = replaced 84 (0 ∷ 0 ∷ 236 ∷ 255 ∷ []) file-made-after
 
 abbrev file-poured-too-much-poured : List ℕ
 file-poured-too-much-poured =
@@ -390,7 +403,7 @@ file-dry-run = alike (lists counts) (runForFile 5 dry-file) (answers 4 0 1 0 dry
 
 -- a poured row of too few entries (1) is told before rows that do not stand where they must (14)
 abbrev shifted-file : List ℕ
-shifted-file = replaced 24 (49 ∷ []) file-made-after
+shifted-file = replaced 24 (53 ∷ []) file-made-after
 
 pub file-poured-short : stepFile shifted-file (replicate 28 0) ≡ answers 1 0 0 0 shifted-file
 unfolding opened
@@ -401,7 +414,7 @@ pub file-checked : checkFile file-made-after ≡ says 0 0 0 0
 unfolding opened
 file-checked = refl
 
--- a file whose depths are said to start at byte 49
+-- a file whose depths are said to start at byte 53
 pub file-shifted : checkFile shifted-file ≡ says 14 0 0 0
 unfolding opened
 file-shifted = refl
@@ -411,13 +424,80 @@ pub file-run : runFile file-paused-after ≡ file-complete-after
 unfolding opened
 file-run = lists counts .sound (runFile file-paused-after) file-complete-after tt
 
--- it writes nothing for a file that is refused, here of another edition
-abbrev later-file : List ℕ
-later-file = replaced 0 (2 ∷ []) file-made-after
+-- it writes nothing for a file that is refused, here of edition 1
+abbrev earlier-file : List ℕ
+earlier-file = replaced 0 (1 ∷ []) file-made-after
 
-pub file-not-run : runFile later-file ≡ []
+pub file-not-run : runFile earlier-file ≡ []
 unfolding opened
-file-not-run = lists counts .sound (runFile later-file) [] tt
+file-not-run = lists counts .sound (runFile earlier-file) [] tt
+
+-- such a file is refused with 13
+pub file-of-edition-one : checkFile earlier-file ≡ says 13 0 0 0
+unfolding opened
+file-of-edition-one = refl
+
+-- those rows and one of damping, in the last cells
+abbrev file-damped-dampings : List ℕ
+file-damped-dampings =
+    0 ∷ 0 ∷ 0 ∷ 0 ∷ 0 ∷ 0 ∷ 0 ∷ 0 ∷ 0 ∷ 0 ∷ 0 ∷ 0 ∷ 0 ∷ 0 ∷ 0 ∷ 0 ∷
+    244 ∷ 1 ∷ 0 ∷ 0 ∷ 220 ∷ 5 ∷ 0 ∷ 0 ∷ 148 ∷ 17 ∷ 0 ∷ 0 ∷ 28 ∷ 37 ∷ 0 ∷ 0 ∷ []
+
+abbrev file-damped-after : List ℕ
+file-damped-after =
+    assembled
+    (2 ∷ 0 ∷ 0 ∷ 0 ∷ 8 ∷ 0 ∷ 0 ∷ 0 ∷ 244 ∷ 1 ∷ 0 ∷ 0 ∷ 50 ∷ 0 ∷ 0 ∷ 0 ∷
+    0 ∷ 0 ∷ 0 ∷ 0 ∷ 4 ∷ 0 ∷ 0 ∷ 0 ∷ [])
+    places-of-8
+    file-made-depths
+    file-made-heights
+    file-made-velocities
+    (part 148 32 file-made-after)
+    (part 180 168 file-made-after)
+    (thrice (18 ∷ 75 ∷ 4 ∷ 0 ∷ 0 ∷ 0 ∷ 0 ∷ 0 ∷ 143 ∷ 126 ∷ 1 ∷ 0 ∷ 0 ∷ 0 ∷ 0 ∷ 0 ∷
+    126 ∷ 83 ∷ 254 ∷ 255 ∷ 255 ∷ 255 ∷ 255 ∷ 255 ∷ 231 ∷ 171 ∷ 254 ∷ 255 ∷ 255 ∷ 255 ∷ 255 ∷ 255 ∷
+    106 ∷ 247 ∷ 1 ∷ 0 ∷ 0 ∷ 0 ∷ 0 ∷ 0 ∷ 29 ∷ 176 ∷ 252 ∷ 255 ∷ 255 ∷ 255 ∷ 255 ∷ 255 ∷
+    194 ∷ 176 ∷ 1 ∷ 0 ∷ 0 ∷ 0 ∷ 0 ∷ 0 ∷ 20 ∷ 42 ∷ 7 ∷ 0 ∷ 0 ∷ 0 ∷ 0 ∷ 0 ∷ []))
+    file-damped-dampings
+
+pub file-damped :
+    makeFile 8 500 50 4 file-made-depths file-made-heights file-made-velocities file-damped-dampings (replicate 572 0)
+    ≡ answers 0 0 0 0 file-damped-after
+unfolding opened
+file-damped =
+    alike (lists counts)
+    (makeFile 8 500 50 4 file-made-depths file-made-heights file-made-velocities file-damped-dampings (replicate 572 0))
+    (answers 0 0 0 0 file-damped-after) tt
+
+-- one step of a run of that file
+abbrev file-damped-run-after : List ℕ
+file-damped-run-after =
+    assembled
+    (2 ∷ 0 ∷ 0 ∷ 0 ∷ 8 ∷ 0 ∷ 0 ∷ 0 ∷ 244 ∷ 1 ∷ 0 ∷ 0 ∷ 50 ∷ 0 ∷ 0 ∷ 0 ∷
+    1 ∷ 0 ∷ 0 ∷ 0 ∷ 4 ∷ 0 ∷ 0 ∷ 0 ∷ [])
+    places-of-8
+    file-made-depths
+    (33 ∷ 48 ∷ 0 ∷ 0 ∷ 27 ∷ 225 ∷ 255 ∷ 255 ∷ 182 ∷ 5 ∷ 0 ∷ 0 ∷ 244 ∷ 0 ∷ 0 ∷ 0 ∷
+    248 ∷ 42 ∷ 0 ∷ 0 ∷ 80 ∷ 229 ∷ 255 ∷ 255 ∷ 254 ∷ 95 ∷ 0 ∷ 0 ∷ 87 ∷ 209 ∷ 255 ∷ 255 ∷ [])
+    (235 ∷ 45 ∷ 0 ∷ 0 ∷ 90 ∷ 188 ∷ 255 ∷ 255 ∷ 219 ∷ 18 ∷ 0 ∷ 0 ∷ 205 ∷ 142 ∷ 0 ∷ 0 ∷
+    73 ∷ 254 ∷ 255 ∷ 255 ∷ 106 ∷ 230 ∷ 255 ∷ 255 ∷ 159 ∷ 204 ∷ 255 ∷ 255 ∷ 181 ∷ 79 ∷ 0 ∷ 0 ∷ [])
+    (149 ∷ 78 ∷ 0 ∷ 0 ∷ 225 ∷ 151 ∷ 255 ∷ 255 ∷ 79 ∷ 6 ∷ 0 ∷ 0 ∷ 49 ∷ 213 ∷ 0 ∷ 0 ∷
+    100 ∷ 223 ∷ 255 ∷ 255 ∷ 72 ∷ 229 ∷ 255 ∷ 255 ∷ 38 ∷ 182 ∷ 255 ∷ 255 ∷ 70 ∷ 131 ∷ 0 ∷ 0 ∷ [])
+    (onto (95 ∷ 11 ∷ 72 ∷ 188 ∷ 255 ∷ 255 ∷ 255 ∷ 255 ∷ 78 ∷ 154 ∷ 57 ∷ 245 ∷ 254 ∷ 255 ∷ 255 ∷ 255 ∷
+    175 ∷ 205 ∷ 66 ∷ 112 ∷ 2 ∷ 0 ∷ 0 ∷ 0 ∷ 162 ∷ 60 ∷ 208 ∷ 19 ∷ 2 ∷ 0 ∷ 0 ∷ 0 ∷
+    185 ∷ 12 ∷ 46 ∷ 111 ∷ 255 ∷ 255 ∷ 255 ∷ 255 ∷ 8 ∷ 231 ∷ 13 ∷ 255 ∷ 254 ∷ 255 ∷ 255 ∷ 255 ∷
+    221 ∷ 105 ∷ 181 ∷ 149 ∷ 0 ∷ 0 ∷ 0 ∷ 0 ∷ [])
+    (drop 180 file-damped-after))
+    (onto (185 ∷ 69 ∷ 4 ∷ 0 ∷ 0 ∷ 0 ∷ 0 ∷ 0 ∷ 134 ∷ 220 ∷ 1 ∷ 0 ∷ 0 ∷ 0 ∷ 0 ∷ 0 ∷
+    154 ∷ 85 ∷ 254 ∷ 255 ∷ 255 ∷ 255 ∷ 255 ∷ 255 ∷ 206 ∷ 32 ∷ 254 ∷ 255 ∷ 255 ∷ 255 ∷ 255 ∷ 255 ∷
+    234 ∷ 253 ∷ 1 ∷ 0 ∷ 0 ∷ 0 ∷ 0 ∷ 0 ∷ 159 ∷ 34 ∷ 253 ∷ 255 ∷ 255 ∷ 255 ∷ 255 ∷ 255 ∷
+    235 ∷ 91 ∷ 1 ∷ 0 ∷ 0 ∷ 0 ∷ 0 ∷ 0 ∷ 74 ∷ 30 ∷ 5 ∷ 0 ∷ 0 ∷ 0 ∷ 0 ∷ 0 ∷ [])
+    (drop 348 file-damped-after))
+    file-damped-dampings
+
+pub file-damped-run : runForFile 1 file-damped-after ≡ answers 16 0 0 1 file-damped-run-after
+unfolding opened
+file-damped-run = alike (lists counts) (runForFile 1 file-damped-after) (answers 16 0 0 1 file-damped-run-after) tt
 
 -- a file of which three steps are wanted
 abbrev file-of-three-depths : List ℕ
@@ -433,33 +513,34 @@ file-of-three-heights =
 abbrev file-of-three-after : List ℕ
 file-of-three-after =
     assembled
-    (1 ∷ 0 ∷ 0 ∷ 0 ∷ 8 ∷ 0 ∷ 0 ∷ 0 ∷ 232 ∷ 3 ∷ 0 ∷ 0 ∷ 25 ∷ 0 ∷ 0 ∷ 0 ∷
+    (2 ∷ 0 ∷ 0 ∷ 0 ∷ 8 ∷ 0 ∷ 0 ∷ 0 ∷ 232 ∷ 3 ∷ 0 ∷ 0 ∷ 25 ∷ 0 ∷ 0 ∷ 0 ∷
     0 ∷ 0 ∷ 0 ∷ 0 ∷ 3 ∷ 0 ∷ 0 ∷ 0 ∷ [])
     places-of-8
     file-of-three-depths
     file-of-three-heights
     (replicate 32 0)
     (replicate 32 0)
-    (thrice (replicate 56 0))
+    (replicate 168 0)
     (thrice (208 ∷ 115 ∷ 255 ∷ 255 ∷ 255 ∷ 255 ∷ 255 ∷ 255 ∷ 137 ∷ 152 ∷ 255 ∷ 255 ∷ 255 ∷ 255 ∷ 255 ∷ 255 ∷
     32 ∷ 253 ∷ 255 ∷ 255 ∷ 255 ∷ 255 ∷ 255 ∷ 255 ∷ 1 ∷ 152 ∷ 0 ∷ 0 ∷ 0 ∷ 0 ∷ 0 ∷ 0 ∷
     23 ∷ 226 ∷ 0 ∷ 0 ∷ 0 ∷ 0 ∷ 0 ∷ 0 ∷ 0 ∷ 0 ∷ 0 ∷ 0 ∷ 0 ∷ 0 ∷ 0 ∷ 0 ∷
     195 ∷ 101 ∷ 255 ∷ 255 ∷ 255 ∷ 255 ∷ 255 ∷ 255 ∷ 64 ∷ 136 ∷ 255 ∷ 255 ∷ 255 ∷ 255 ∷ 255 ∷ 255 ∷ []))
+    (replicate 32 0)
 
 pub file-of-three :
-    makeFile 8 1000 25 3 file-of-three-depths file-of-three-heights (replicate 32 0) (replicate 536 0)
+    makeFile 8 1000 25 3 file-of-three-depths file-of-three-heights (replicate 32 0) (replicate 32 0) (replicate 572 0)
     ≡ answers 0 0 0 0 file-of-three-after
 unfolding opened
 file-of-three =
     alike (lists counts)
-    (makeFile 8 1000 25 3 file-of-three-depths file-of-three-heights (replicate 32 0) (replicate 536 0))
+    (makeFile 8 1000 25 3 file-of-three-depths file-of-three-heights (replicate 32 0) (replicate 32 0) (replicate 572 0))
     (answers 0 0 0 0 file-of-three-after) tt
 
 -- its first step
 abbrev file-of-three-first-after : List ℕ
 file-of-three-first-after =
     assembled
-    (1 ∷ 0 ∷ 0 ∷ 0 ∷ 8 ∷ 0 ∷ 0 ∷ 0 ∷ 232 ∷ 3 ∷ 0 ∷ 0 ∷ 25 ∷ 0 ∷ 0 ∷ 0 ∷
+    (2 ∷ 0 ∷ 0 ∷ 0 ∷ 8 ∷ 0 ∷ 0 ∷ 0 ∷ 232 ∷ 3 ∷ 0 ∷ 0 ∷ 25 ∷ 0 ∷ 0 ∷ 0 ∷
     1 ∷ 0 ∷ 0 ∷ 0 ∷ 3 ∷ 0 ∷ 0 ∷ 0 ∷ [])
     places-of-8
     file-of-three-depths
@@ -473,12 +554,13 @@ file-of-three-first-after =
     250 ∷ 152 ∷ 253 ∷ 8 ∷ 0 ∷ 0 ∷ 0 ∷ 0 ∷ 96 ∷ 21 ∷ 135 ∷ 24 ∷ 0 ∷ 0 ∷ 0 ∷ 0 ∷
     69 ∷ 121 ∷ 119 ∷ 14 ∷ 0 ∷ 0 ∷ 0 ∷ 0 ∷ 4 ∷ 43 ∷ 90 ∷ 245 ∷ 255 ∷ 255 ∷ 255 ∷ 255 ∷
     235 ∷ 22 ∷ 112 ∷ 237 ∷ 255 ∷ 255 ∷ 255 ∷ 255 ∷ [])
-    (drop 176 file-of-three-after))
+    (drop 180 file-of-three-after))
     (onto (245 ∷ 115 ∷ 255 ∷ 255 ∷ 255 ∷ 255 ∷ 255 ∷ 255 ∷ 184 ∷ 152 ∷ 255 ∷ 255 ∷ 255 ∷ 255 ∷ 255 ∷ 255 ∷
     37 ∷ 253 ∷ 255 ∷ 255 ∷ 255 ∷ 255 ∷ 255 ∷ 255 ∷ 223 ∷ 151 ∷ 0 ∷ 0 ∷ 0 ∷ 0 ∷ 0 ∷ 0 ∷
     232 ∷ 225 ∷ 0 ∷ 0 ∷ 0 ∷ 0 ∷ 0 ∷ 0 ∷ 255 ∷ 255 ∷ 255 ∷ 255 ∷ 255 ∷ 255 ∷ 255 ∷ 255 ∷
     248 ∷ 101 ∷ 255 ∷ 255 ∷ 255 ∷ 255 ∷ 255 ∷ 255 ∷ 101 ∷ 136 ∷ 255 ∷ 255 ∷ 255 ∷ 255 ∷ 255 ∷ 255 ∷ [])
-    (drop 344 file-of-three-after))
+    (drop 348 file-of-three-after))
+    (replicate 32 0)
 
 pub file-of-three-first : stepFile file-of-three-after (replicate 32 0) ≡ answers 0 0 0 1 file-of-three-first-after
 unfolding opened
@@ -491,7 +573,7 @@ file-of-three-first =
 abbrev file-of-three-second-after : List ℕ
 file-of-three-second-after =
     assembled
-    (1 ∷ 0 ∷ 0 ∷ 0 ∷ 8 ∷ 0 ∷ 0 ∷ 0 ∷ 232 ∷ 3 ∷ 0 ∷ 0 ∷ 25 ∷ 0 ∷ 0 ∷ 0 ∷
+    (2 ∷ 0 ∷ 0 ∷ 0 ∷ 8 ∷ 0 ∷ 0 ∷ 0 ∷ 232 ∷ 3 ∷ 0 ∷ 0 ∷ 25 ∷ 0 ∷ 0 ∷ 0 ∷
     2 ∷ 0 ∷ 0 ∷ 0 ∷ 3 ∷ 0 ∷ 0 ∷ 0 ∷ [])
     places-of-8
     file-of-three-depths
@@ -505,12 +587,13 @@ file-of-three-second-after =
     197 ∷ 96 ∷ 251 ∷ 17 ∷ 0 ∷ 0 ∷ 0 ∷ 0 ∷ 205 ∷ 171 ∷ 2 ∷ 49 ∷ 0 ∷ 0 ∷ 0 ∷ 0 ∷
     234 ∷ 106 ∷ 233 ∷ 28 ∷ 0 ∷ 0 ∷ 0 ∷ 0 ∷ 205 ∷ 138 ∷ 188 ∷ 234 ∷ 255 ∷ 255 ∷ 255 ∷ 255 ∷
     4 ∷ 98 ∷ 235 ∷ 218 ∷ 255 ∷ 255 ∷ 255 ∷ 255 ∷ [])
-    (drop 176 file-of-three-first-after))
+    (drop 180 file-of-three-first-after))
     (onto (93 ∷ 116 ∷ 255 ∷ 255 ∷ 255 ∷ 255 ∷ 255 ∷ 255 ∷ 57 ∷ 153 ∷ 255 ∷ 255 ∷ 255 ∷ 255 ∷ 255 ∷ 255 ∷
     53 ∷ 253 ∷ 255 ∷ 255 ∷ 255 ∷ 255 ∷ 255 ∷ 255 ∷ 127 ∷ 151 ∷ 0 ∷ 0 ∷ 0 ∷ 0 ∷ 0 ∷ 0 ∷
     84 ∷ 225 ∷ 0 ∷ 0 ∷ 0 ∷ 0 ∷ 0 ∷ 0 ∷ 3 ∷ 0 ∷ 0 ∷ 0 ∷ 0 ∷ 0 ∷ 0 ∷ 0 ∷
     159 ∷ 102 ∷ 255 ∷ 255 ∷ 255 ∷ 255 ∷ 255 ∷ 255 ∷ 206 ∷ 136 ∷ 255 ∷ 255 ∷ 255 ∷ 255 ∷ 255 ∷ 255 ∷ [])
-    (drop 344 file-of-three-first-after))
+    (drop 348 file-of-three-first-after))
+    (replicate 32 0)
 
 pub file-of-three-second :
     stepFile file-of-three-first-after (replicate 32 0)
@@ -525,7 +608,7 @@ file-of-three-second =
 abbrev file-of-three-third-after : List ℕ
 file-of-three-third-after =
     assembled
-    (1 ∷ 0 ∷ 0 ∷ 0 ∷ 8 ∷ 0 ∷ 0 ∷ 0 ∷ 232 ∷ 3 ∷ 0 ∷ 0 ∷ 25 ∷ 0 ∷ 0 ∷ 0 ∷
+    (2 ∷ 0 ∷ 0 ∷ 0 ∷ 8 ∷ 0 ∷ 0 ∷ 0 ∷ 232 ∷ 3 ∷ 0 ∷ 0 ∷ 25 ∷ 0 ∷ 0 ∷ 0 ∷
     3 ∷ 0 ∷ 0 ∷ 0 ∷ 3 ∷ 0 ∷ 0 ∷ 0 ∷ [])
     places-of-8
     file-of-three-depths
@@ -539,12 +622,13 @@ file-of-three-third-after =
     20 ∷ 116 ∷ 235 ∷ 26 ∷ 0 ∷ 0 ∷ 0 ∷ 0 ∷ 212 ∷ 208 ∷ 102 ∷ 73 ∷ 0 ∷ 0 ∷ 0 ∷ 0 ∷
     44 ∷ 26 ∷ 75 ∷ 43 ∷ 0 ∷ 0 ∷ 0 ∷ 0 ∷ 27 ∷ 187 ∷ 44 ∷ 224 ∷ 255 ∷ 255 ∷ 255 ∷ 255 ∷
     149 ∷ 114 ∷ 128 ∷ 200 ∷ 255 ∷ 255 ∷ 255 ∷ 255 ∷ [])
-    (drop 176 file-of-three-second-after))
+    (drop 180 file-of-three-second-after))
     (onto (19 ∷ 117 ∷ 255 ∷ 255 ∷ 255 ∷ 255 ∷ 255 ∷ 255 ∷ 252 ∷ 153 ∷ 255 ∷ 255 ∷ 255 ∷ 255 ∷ 255 ∷ 255 ∷
     86 ∷ 253 ∷ 255 ∷ 255 ∷ 255 ∷ 255 ∷ 255 ∷ 255 ∷ 233 ∷ 150 ∷ 0 ∷ 0 ∷ 0 ∷ 0 ∷ 0 ∷ 0 ∷
     82 ∷ 224 ∷ 0 ∷ 0 ∷ 0 ∷ 0 ∷ 0 ∷ 0 ∷ 21 ∷ 0 ∷ 0 ∷ 0 ∷ 0 ∷ 0 ∷ 0 ∷ 0 ∷
     171 ∷ 103 ∷ 255 ∷ 255 ∷ 255 ∷ 255 ∷ 255 ∷ 255 ∷ 115 ∷ 137 ∷ 255 ∷ 255 ∷ 255 ∷ 255 ∷ 255 ∷ 255 ∷ [])
-    (drop 344 file-of-three-second-after))
+    (drop 348 file-of-three-second-after))
+    (replicate 32 0)
 
 pub file-of-three-third :
     stepFile file-of-three-second-after (replicate 32 0)
@@ -573,6 +657,7 @@ read-into-rows-before =
     (replicate 8 (pos 0))
     (replicate 21 (pos 0))
     (replicate 24 (pos 0))
+    (replicate 8 (pos 0))
 
 pub read-into-rows : readCall read-into-rows-before write-uneven-file ≡ answers 0 0 0 0 run-paused-before
 unfolding opened
@@ -591,6 +676,7 @@ read-into-longer-rows-before =
     (replicate 9 (pos 0))
     (replicate 24 (pos 0))
     (replicate 27 (pos 0))
+    (replicate 9 (pos 0))
 
 pub read-into-longer-rows :
     readCall read-into-longer-rows-before write-uneven-file
