@@ -12,19 +12,24 @@
      number  0 when the call did what was asked, else why it did not: see the list below
      stage   of a step, and of the step that ended a run: where it was refused, 0 for the prediction and for
              everything before it, 1 to 10 for that correction; 0 in all other calls
-     place   of 4, 5 and 31 to 37: the lowest cell at fault, of 35 the lowest face, counted from 1 at the left wall;
+     place   of 4, 5 and 31 to 38: the lowest cell at fault, of 35 the lowest face, counted from 1 at the left wall;
              face j lies between cells j and j + 1. Each row is looked at wholly before the next, and flux and
              acceleration level by level, the newest first: the place is one in that level. 0 of all other numbers
      count   of a step: how many corrections it took, 1 to 10; of a run: how many steps it accepted, also when it
              then met a refusal; of a gauge that was placed: which of the eight it is, 1 to 8; else 0
 
-   THE FILE of a channel of n cells has 24 + 64 * n bytes, little-endian: twelve 4-byte counts (edition 1, cells,
-   cell width in mm, time step in ms, steps accepted, steps wanted, and where the six rows start), then the rows:
+   THE FILE of a channel of n cells has 28 + 68 * n bytes, little-endian: thirteen 4-byte counts (edition 2, cells,
+   cell width in mm, time step in ms, steps accepted, steps wanted, and where the seven rows start), then the rows:
    depth in mm, height above still water in um, velocity in um/s, reduced velocity in um/s (4 bytes a cell,
-   signed), flux in um2/s (3 levels of n - 1 faces) and acceleration in um/s2 (3 levels of n cells; 8 bytes each,
-   signed). It is complete exactly when as many steps are accepted as are wanted: pathpetal_complete asks that.
-   The count of steps accepted also chooses the next step's time weights, which a first and a second step have of their
-   own.
+   signed), flux in um2/s (3 levels of n - 1 faces), acceleration in um/s2 (3 levels of n cells; 8 bytes each,
+   signed) and damping in thousandths per second (4 bytes a cell, signed). It is complete exactly when as many steps are
+   accepted as are wanted: pathpetal_complete asks that. The count of steps accepted also chooses the next step's time
+   weights, which a first and a second step have of their own. A file of edition 1, which has no damping row, is refused
+   with 13.
+
+   THE DAMPING of a cell tells how quickly it slows the water down, as reeds do: 0 not at all, 10,000 the most. Every
+   acceleration that a call works out is less by damping * velocity / 1000 of its cell, which is rounded by itself.
+   That alone moves no water between cells, and no call changes a damping.
 
    THE GAUGES are 512 bytes, all zeros while there is none: eight places of 64 bytes, each empty (all zeros) or one
    gauge, in eight numbers of 8 bytes, little-endian and signed:
@@ -71,10 +76,10 @@ enum pathpetal_reason {
     PATHPETAL_UNSETTLED = 10, /* ten corrections did not settle: take a shorter time step or wider cells */
     PATHPETAL_COMPLETE = 11,  /* all wanted steps are already taken: nothing is left to step or filter */
     PATHPETAL_LENGTH = 12,    /* the file is cut short, too long, or no channel file; or the gauges are not 512 bytes */
-    PATHPETAL_EDITION = 13,   /* not a channel file of edition 1 */
+    PATHPETAL_EDITION = 13,   /* not a channel file of edition 2 */
     PATHPETAL_OFFSETS = 14,   /* the file's rows do not stand where they must; or a number of the gauges is out of its
                                  range */
-    PATHPETAL_BUFFER = 15,    /* the room for the file is not exactly 24 + 64 * cells bytes, or that for the readings
+    PATHPETAL_BUFFER = 15,    /* the room for the file is not exactly 28 + 68 * cells bytes, or that for the readings
                                  of gauges is not exactly 48 numbers */
     PATHPETAL_MORE = 16,      /* a run only: as many steps were taken as this call allowed, and the channel is not
                                  complete; call again to go on */
@@ -89,33 +94,37 @@ enum pathpetal_reason {
     PATHPETAL_BAD_REDUCED = 34,      /* a reduced velocity is not within 2,000,000,000 um/s */
     PATHPETAL_BAD_FLUX = 35,         /* a flux is not within 10^15 um2/s */
     PATHPETAL_BAD_ACCELERATION = 36, /* an acceleration is not within 10^11 um/s2 */
-    PATHPETAL_BAD_POURED = 37        /* a poured amount is not within 1,000,000 um */
+    PATHPETAL_BAD_POURED = 37,       /* a poured amount is not within 1,000,000 um */
+    PATHPETAL_BAD_DAMPING = 38       /* a damping is not 0 to 10,000 thousandths per second */
 };
 
 /* The rule that all calls of the library that is linked follow: 3, and no answer as above. It grows whenever a call
-   comes to leave other numbers in a file for the same input, so that a host can tell what it may go on with; it has not
-   grown by refusal 26, which came later, for a channel that is refused has no other numbers. By rule 2 a
-   half was rounded away from zero, and not to the even number. Rule 1 was that before the start ladder, the time weights
-   of a first and a second step; its library has no such function. */
+   comes to leave other numbers in a file for the same input, so that a host can tell what it may go on with. It has not
+   grown by refusal 26, which came later, for a channel that is refused has no other numbers; nor by damping, for a
+   channel without it has the numbers that it had. By rule 2 a half was rounded away from zero, and not to the even
+   number. Rule 1 was that before the start ladder, the time weights of a first and a second step; its library has no
+   such function. */
 uint64_t pathpetal_rule(void);
 
 /* Makes the file of a new channel, with no step accepted, in the file_len bytes at file: exactly
-   pathpetal_length(cells). depths, heights and velocities hold 4 bytes for each cell, signed and little-endian
-   (mm, um, um/s). Refused: 1, 2, 31, 32, 33, 4, 26, 5, 15, 7, 9, the first that holds in this order. */
+   pathpetal_length(cells). depths, heights, velocities and dampings hold 4 bytes for each cell, signed and
+   little-endian (mm, um, um/s, thousandths per second); dampings are all zeros for a channel without. Refused: 1, 2,
+   31, 32, 33, 38, 4, 26, 5, 15, 7, 9, the first that holds in this order. */
 uint64_t pathpetal_make(uint64_t cells, uint64_t width_mm, uint64_t step_ms, uint64_t wanted,
                         const uint8_t *depths, size_t depths_len,
                         const uint8_t *heights, size_t heights_len,
                         const uint8_t *velocities, size_t velocities_len,
+                        const uint8_t *dampings, size_t dampings_len,
                         uint8_t *file, size_t file_len);
 
-/* Whether these bytes are a channel file that every other call will take. Refused: 12 (shorter than its head), 13,
-   1, 12 (not the length for its cells), 14, 2, 31, 32, 33, 34, 35, 36, 4, 26, 5. No file that a call has
-   changed or made is refused by 26. */
+/* Whether these bytes are a channel file that every other call will take. Refused: 12 (shorter than 48 bytes, whatever
+   the edition), 13, 1, 12 (not the length for its cells), 14, 2, 31, 32, 33, 34, 35, 36, 38, 4, 26, 5. No file that a
+   call has changed or made is refused by 26. */
 uint64_t pathpetal_check(const uint8_t *file, size_t file_len);
 
 /* One step, with an amount of water poured into each cell: poured holds 4 bytes for each cell (um, within
    1,000,000), all zeros to pour nothing. The file becomes that of the channel after the step. Refused as by
-   pathpetal_check, the poured row's length with 1, and its amounts with 37, between 36 and 4; then 11; then at a stage
+   pathpetal_check, the poured row's length with 1, and its amounts with 37, between 38 and 4; then 11; then at a stage
    8, 4, 7, 6, 7, 9; then 10. */
 uint64_t pathpetal_step(uint8_t *file, size_t file_len, const uint8_t *poured, size_t poured_len);
 
@@ -169,9 +178,9 @@ static inline unsigned pathpetal_place(uint64_t answer) { return (unsigned)(answ
 static inline uint64_t pathpetal_count(uint64_t answer) { return answer / 33554432; }
 
 /* The length of a channel's file. */
-static inline size_t pathpetal_length(size_t cells) { return 24 + 64 * cells; }
+static inline size_t pathpetal_length(size_t cells) { return 28 + 68 * cells; }
 
-/* Reading from the bytes of a file that pathpetal_check takes, or refuses with 4, 5, 26 or 31 to 36. */
+/* Reading from the bytes of a file that pathpetal_check takes, or refuses with 4, 5, 26, 31 to 36 or 38. */
 static inline uint32_t pathpetal_word(const uint8_t *at)
 {
     return (uint32_t)at[0] | (uint32_t)at[1] << 8 | (uint32_t)at[2] << 16 | (uint32_t)at[3] << 24;
@@ -193,15 +202,20 @@ static inline int pathpetal_complete(const uint8_t *file)
 /* of cell 0 to cells - 1: the place of an answer, less 1 */
 static inline int32_t pathpetal_depth_mm(const uint8_t *file, size_t cell)
 {
-    return pathpetal_signed(file + 48 + 4 * cell);
+    return pathpetal_signed(file + 52 + 4 * cell);
 }
 static inline int32_t pathpetal_height_um(const uint8_t *file, size_t cell)
 {
-    return pathpetal_signed(file + 48 + 4 * (size_t)pathpetal_cells(file) + 4 * cell);
+    return pathpetal_signed(file + 52 + 4 * (size_t)pathpetal_cells(file) + 4 * cell);
 }
 static inline int32_t pathpetal_velocity_um_s(const uint8_t *file, size_t cell)
 {
-    return pathpetal_signed(file + 48 + 8 * (size_t)pathpetal_cells(file) + 4 * cell);
+    return pathpetal_signed(file + 52 + 8 * (size_t)pathpetal_cells(file) + 4 * cell);
+}
+/* thousandths per second */
+static inline int32_t pathpetal_damping(const uint8_t *file, size_t cell)
+{
+    return pathpetal_signed(file + 28 + 64 * (size_t)pathpetal_cells(file) + 4 * cell);
 }
 
 #ifdef __cplusplus

@@ -1,7 +1,7 @@
 // pathpetal.mjs: waves along one closed channel, over the bytes of a channel file, in a page or in node.
 //
 // The calls of pathpetal.h over the WebAssembly file pathpetal.wasm, with no other dependency. A channel lives in the
-// bytes of its file, a Uint8Array of 24 + 64 * cells bytes, and nowhere else: nothing is kept between calls.
+// bytes of its file, a Uint8Array of 28 + 68 * cells bytes, and nowhere else: nothing is kept between calls.
 //
 //     import { load, row, GAUGES_LENGTH, Refusal } from './pathpetal.mjs';
 //     const pathpetal = await load();                     // pathpetal.wasm beside this module
@@ -10,6 +10,7 @@
 //         depths: row([1000, 1000, 1000, 1000, 1000, 1000, 1000, 1000]),            // mm
 //         heights: row([20000, 10000, 0, 0, 0, 0, 0, 0]),                           // um above still water
 //         velocities: row([0, 0, 0, 0, 0, 0, 0, 0]),                                // um/s
+//         dampings: row([0, 0, 0, 0, 0, 500, 2000, 8000]),                          // thousandths per second
 //     });
 //     const answer = pathpetal.run(file);                 // file is then the channel after its accepted steps
 //     if (!answer.complete) console.log(answer.words);
@@ -43,20 +44,20 @@ const PLACES = 8;
 const TOLD = 6;
 
 /** The longest channel file and the longest row beside it, in bytes. */
-const FILE_MOST = 24 + 64 * 256;
+const FILE_MOST = 28 + 68 * 256;
 const ROW_MOST = 4 * 256;
 
 /** Bytes in a page of WebAssembly memory. */
 const PAGE = 65536;
 
 /**
- * Where in the page that is kept for them strings are lent, and the longest that a call takes: a file, three rows and
+ * Where in the page that is kept for them strings are lent, and the longest that a call takes: a file, four rows and
  * gauges. Behind them are the readings of gauges, numbers of 8 bytes at a multiple of 8.
  */
-const STARTS = [0, 20480, 22528, 24576, 26624];
-const LONGEST = [FILE_MOST, ROW_MOST, ROW_MOST, ROW_MOST, GAUGES_LENGTH];
-const READINGS = 28672;
-const GAUGES = 4;
+const STARTS = [0, 20480, 22528, 24576, 26624, 28672];
+const LONGEST = [FILE_MOST, ROW_MOST, ROW_MOST, ROW_MOST, ROW_MOST, GAUGES_LENGTH];
+const READINGS = 30720;
+const GAUGES = 5;
 
 /** Node's own module of files, which a page never asks for. */
 const NODE_FILES = 'node:fs/promises';
@@ -78,9 +79,9 @@ export const reasons = Object.freeze({
     10: 'ten corrections did not settle: take a shorter time step or wider cells',
     11: 'all wanted steps are already taken: nothing is left to step or filter',
     12: 'the file is cut short, too long, or no channel file; or the gauges are not 512 bytes',
-    13: 'not a channel file of edition 1',
+    13: 'not a channel file of edition 2',
     14: "the file's rows do not stand where they must; or a number of the gauges is out of its range",
-    15: 'the room for the file is not exactly 24 + 64 * cells bytes, or that for the readings of gauges is not exactly 48 numbers',
+    15: 'the room for the file is not exactly 28 + 68 * cells bytes, or that for the readings of gauges is not exactly 48 numbers',
     16: 'a run only: as many steps were taken as this call allowed, and the channel is not complete; call again to go on',
     20: 'eight gauges are placed already',
     21: "a gauge's cell is not in the channel",
@@ -93,6 +94,7 @@ export const reasons = Object.freeze({
     35: 'a flux is not within 10^15 um2/s',
     36: 'an acceleration is not within 10^11 um/s2',
     37: 'a poured amount is not within 1,000,000 um',
+    38: 'a damping is not 0 to 10,000 thousandths per second',
 });
 
 /** The refusal whose place is a face; all others that have one name a cell. */
@@ -106,7 +108,7 @@ export class Refusal extends Error {
         super(`refused ${number}${where}${stage ? ` at correction ${stage}` : ''}: ${reasons[number]}`);
         this.name = 'Refusal';
         /**
-         * Why: 1, 2, 4 to 15, 20, 21, 26 or 30 to 37, as in pathpetal.h.
+         * Why: 1, 2, 4 to 15, 20, 21, 26 or 30 to 38, as in pathpetal.h.
          * @type {number}
          */
         this.number = number;
@@ -139,7 +141,7 @@ export class Refusal extends Error {
  * @returns {number}
  */
 export function fileLength(cells) {
-    return 24 + 64 * cells;
+    return 28 + 68 * cells;
 }
 
 /**
@@ -168,6 +170,8 @@ export function row(values) {
  * @property {Uint8Array} depths depth in mm, 4 bytes for each cell, as `row` makes them
  * @property {Uint8Array} heights height above still water in um, 4 bytes for each cell
  * @property {Uint8Array} velocities velocity in um/s, 4 bytes for each cell
+ * @property {Uint8Array} dampings how quickly each cell slows the water down, in thousandths per second, 0 to 10,000, 4
+ *     bytes for each cell; all zeros for a channel without damping
  */
 
 /**
@@ -181,6 +185,7 @@ export function row(values) {
  * @property {Int32Array} depths in mm
  * @property {Int32Array} heights above still water, in um
  * @property {Int32Array} velocities in um/s
+ * @property {Int32Array} dampings in thousandths per second
  */
 
 /**
@@ -294,9 +299,10 @@ export class Pathpetal {
 
     /**
      * The rule that all calls of the WebAssembly file follow: 3. It grows whenever a call comes to leave other numbers in
-     * a file for the same input, so that a page can tell what it may go on with. By rule 2 a half was rounded away from
-     * zero, and not to the even number. Rule 1 was that before the start ladder, the time weights of a first and a second
-     * step; its WebAssembly file is not taken by this module.
+     * a file for the same input, so that a page can tell what it may go on with; it has not grown by damping, for a
+     * channel without it has the numbers that it had. By rule 2 a half was rounded away from zero, and not to the even
+     * number. Rule 1 was that before the start ladder, the time weights of a first and a second step; its WebAssembly
+     * file is not taken by this module.
      * @returns {number}
      */
     get rule() {
@@ -307,7 +313,7 @@ export class Pathpetal {
      * Lends bytes to the library: copies them to the room, at most one more than the longest that a call takes, since
      * what is longer is refused all the same. Gives the two arguments that stand for them.
      * @param {Uint8Array} bytes
-     * @param {number} string 0 for a file, 1 to 3 for a row, GAUGES for gauges
+     * @param {number} string 0 for a file, 1 to 4 for a row, GAUGES for gauges
      * @returns {[number, bigint]}
      */
     #lend(bytes, string) {
@@ -330,7 +336,7 @@ export class Pathpetal {
      * @param {Start} start
      * @param {Uint8Array} [file] room for it, of exactly its length; without it there is a new one
      * @returns {Uint8Array} the file
-     * @throws {Refusal} 1, 2, 31, 32, 33, 4, 26, 5, 15, 7, 9, the first that holds in this order
+     * @throws {Refusal} 1, 2, 31, 32, 33, 38, 4, 26, 5, 15, 7, 9, the first that holds in this order
      */
     make(start, file) {
         const cells = whole(start.cells, 'cells');
@@ -341,6 +347,7 @@ export class Pathpetal {
             ...this.#lend(checked(start.depths, 'depths'), 1),
             ...this.#lend(checked(start.heights, 'heights'), 2),
             ...this.#lend(checked(start.velocities, 'velocities'), 3),
+            ...this.#lend(checked(start.dampings, 'dampings'), 4),
             ...this.#lend(into, 0),
         )));
         this.#take(into);
@@ -351,8 +358,8 @@ export class Pathpetal {
      * Whether these bytes are a channel file that every other call will take.
      * @param {Uint8Array} file
      * @returns {void}
-     * @throws {Refusal} 12 (shorter than its head), 13, 1, 12 (not the length for its cells), 14, 2, 31, 32, 33, 34,
-     *     35, 36, 4, 26, 5
+     * @throws {Refusal} 12 (shorter than 48 bytes, whatever the edition), 13, 1, 12 (not the length for its cells), 14,
+     *     2, 31, 32, 33, 34, 35, 36, 38, 4, 26, 5
      */
     check(file) {
         accepted(parts(this.#calls.pathpetal_check(...this.#lend(checked(file, 'file'), 0))));
@@ -364,7 +371,7 @@ export class Pathpetal {
      * @param {Uint8Array} poured an amount of water for each cell in um, within 1,000,000, 4 bytes each as `row` makes
      *     them; all zeros to pour nothing
      * @returns {number} how many corrections it took, 1 to 10
-     * @throws {Refusal} as by `check`, the poured row's length with 1, and its amounts with 37, between 36 and 4; then
+     * @throws {Refusal} as by `check`, the poured row's length with 1, and its amounts with 37, between 38 and 4; then
      *     11; then at a stage 8, 4, 7, 6, 7, 9; then 10
      */
     step(file, poured) {
@@ -471,11 +478,12 @@ export class Pathpetal {
         const view = new DataView(file.buffer, file.byteOffset, file.byteLength);
         const count = (/** @type {number} */ i) => view.getUint32(4 * i, true);
         const cells = count(1);
-        const values = (/** @type {number} */ i) =>
-            Int32Array.from({ length: cells }, (_, j) => view.getInt32(48 + 4 * (i * cells + j), true));
+        const values = (/** @type {number} */ start) =>
+            Int32Array.from({ length: cells }, (_, j) => view.getInt32(start + 4 * j, true));
         return {
             cells, widthMm: count(2), stepMs: count(3), accepted: count(4), wanted: count(5), complete: count(4) === count(5),
-            depths: values(0), heights: values(1), velocities: values(2),
+            depths: values(52), heights: values(52 + 4 * cells), velocities: values(52 + 8 * cells),
+            dampings: values(28 + 64 * cells),
         };
     }
 }
