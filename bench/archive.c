@@ -1,6 +1,7 @@
 /* The archive and the second program on the same channel files, in one run.
-   archive times FOLDER: for each number of cells and each call prints a line: cells, call, steps, stages, and the best
-   seconds of the archive and of the second program; writes the files before and after to FOLDER.
+   archive times FOLDER: for each number of cells, damping and call prints a line: cells, damping of every cell, call,
+   steps, stages, and the best seconds of the archive and of the second program; writes the files before and after to
+   FOLDER.
    archive stack: prints the bytes of stack that each call uses at 256 cells. */
 #define _GNU_SOURCE
 #include "../tests/everywhere/by_second.h"
@@ -12,7 +13,7 @@
 #include <string.h>
 #include <time.h>
 
-enum { CELLS = 256, LONGEST = 24 + 64 * CELLS, ROUNDS = 15, STACK = 1 << 20, KINDS = 5 };
+enum { CELLS = 256, LONGEST = 28 + 68 * CELLS, ROUNDS = 15, STACK = 1 << 20, KINDS = 5 };
 
 struct channel {
     size_t len;
@@ -33,17 +34,19 @@ static void put(uint8_t *at, long value)
         at[i] = (uint8_t)((unsigned long)value >> 8 * i);
 }
 
-/* A smooth hump of 20 mm let go from rest in water of 1 m, over a bottom that rises gently. */
-static struct channel hump(size_t N, uint64_t wanted)
+/* A smooth hump of 20 mm let go from rest in water of 1 m, over a bottom that rises gently, with one damping in all
+   cells. */
+static struct channel hump(size_t N, uint64_t wanted, long damping)
 {
     struct channel c = {.len = pathpetal_length(N)};
-    uint8_t h[4 * CELLS], e[4 * CELLS];
+    uint8_t h[4 * CELLS], e[4 * CELLS], d[4 * CELLS];
     for (size_t j = 0; j < N; j++) {
         long far = ((long)(2 * j) - (long)N) * 1000 / (long)N;
         put(h + 4 * j, 1000 - (long)j * 200 / (long)N);
         put(e + 4 * j, far > -300 && far < 300 ? 20000 * (90000 - far * far) / 90000 : 0);
+        put(d + 4 * j, damping);
     }
-    if (by_second_make(N, 500, 20, wanted, h, 4 * N, e, 4 * N, nothing, 4 * N, c.file, c.len))
+    if (by_second_make(N, 500, 20, wanted, h, 4 * N, e, 4 * N, nothing, 4 * N, d, 4 * N, c.file, c.len))
         die("the bench's channel is refused");
     return c;
 }
@@ -83,10 +86,10 @@ static double ran(runner *run, struct channel *c, long steps)
     return seconds;
 }
 
-static void store(const char *folder, size_t N, const char *when, const struct channel *c)
+static void store(const char *folder, size_t N, long damping, const char *when, const struct channel *c)
 {
     char name[4096];
-    snprintf(name, sizeof name, "%s/%zu.%s", folder, N, when);
+    snprintf(name, sizeof name, "%s/%zu-%ld.%s", folder, N, damping, when);
     FILE *f = fopen(name, "wb");
     if (!f || fwrite(c->file, 1, c->len, f) != c->len || fclose(f))
         die("a file cannot be written");
@@ -97,9 +100,9 @@ static void least(double *best, double seconds)
     *best = seconds < *best ? seconds : *best;
 }
 
-static void compare(const char *folder, size_t N, long steps)
+static void compare(const char *folder, size_t N, long damping, long steps)
 {
-    const struct channel start = hump(N, (uint64_t)steps);
+    const struct channel start = hump(N, (uint64_t)steps, damping);
     double best[2][2] = {{1e9, 1e9}, {1e9, 1e9}};
     struct channel end[4];
     long stages = 0;
@@ -115,9 +118,9 @@ static void compare(const char *folder, size_t N, long steps)
         if (memcmp(end[0].file, end[i].file, start.len))
             die("the two differ");
     for (int i = 0; i < 2; i++)
-        printf("%zu %s %ld %ld %.9f %.9f\n", N, i ? "step" : "run", steps, stages, best[i][0], best[i][1]);
-    store(folder, N, "before", &start);
-    store(folder, N, "after", &end[0]);
+        printf("%zu %ld %s %ld %ld %.9f %.9f\n", N, damping, i ? "step" : "run", steps, stages, best[i][0], best[i][1]);
+    store(folder, N, damping, "before", &start);
+    store(folder, N, damping, "after", &end[0]);
 }
 
 /* One call, by the archive or by the second program, on a channel of 256 cells. */
@@ -139,7 +142,8 @@ static void *does(void *given)
         put(h + 4 * j, 1000);
     switch (one->kind) {
     case 0:
-        answer = (one->second ? by_second_make : pathpetal_make)(CELLS, 500, 20, 9, h, row, nothing, row, nothing, row, f, len);
+        answer = (one->second ? by_second_make : pathpetal_make)(CELLS, 500, 20, 9, h, row, nothing, row, nothing, row,
+                                                                 nothing, row, f, len);
         break;
     case 1: answer = (one->second ? by_second_check : pathpetal_check)(f, len); break;
     case 2: answer = (one->second ? by_second_step : pathpetal_step)(f, len, nothing, row); break;
@@ -185,7 +189,7 @@ static void stacks(void)
     for (int second = 0; second < 2; second++) {
         printf("%s", second ? "second" : "archive");
         for (int kind = 0; kind < KINDS; kind++) {
-            one = (struct one_call){kind, second, hump(CELLS, 3)};
+            one = (struct one_call){kind, second, hump(CELLS, 3, 0)};
             size_t used = touched(does, &one), idle = touched(does_nothing, &one);
             printf(" %s %zu", names[kind], used - idle);
         }
@@ -196,9 +200,10 @@ static void stacks(void)
 int main(int argc, char **argv)
 {
     if (argc == 3 && !strcmp(argv[1], "times")) {
-        compare(argv[2], 256, 400);
-        compare(argv[2], 64, 1600);
-        compare(argv[2], 8, 6000);
+        compare(argv[2], 256, 0, 400);
+        compare(argv[2], 256, 100, 400);
+        compare(argv[2], 64, 0, 1600);
+        compare(argv[2], 8, 0, 6000);
         return 0;
     }
     if (argc == 2 && !strcmp(argv[1], "stack")) {

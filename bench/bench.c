@@ -16,7 +16,7 @@ enum { CELLS = 256, ROUNDS = 15, STACK = 1 << 20 };
 struct channel {
     size_t N;
     uint64_t X, T, accepted, wanted;
-    int64_t h[CELLS], e[CELLS], u[CELLS], V[CELLS], Q[3 * CELLS], F[3 * CELLS], s[CELLS];
+    int64_t h[CELLS], e[CELLS], u[CELLS], V[CELLS], Q[3 * CELLS], F[3 * CELLS], damping[CELLS], s[CELLS];
 };
 
 typedef struct second_answer stepper(struct channel *);
@@ -25,14 +25,15 @@ static struct second_answer library_step(struct channel *c)
 {
     uint64_t stage, place, count;
     uint64_t number = lent_step(c->N, c->X, c->T, &c->accepted, c->wanted, c->h, c->N, c->e, c->N, c->u, c->N, c->V, c->N,
-                                c->Q, 3 * (c->N - 1), c->F, 3 * c->N, c->s, c->N, &stage, &place, &count);
+                                c->Q, 3 * (c->N - 1), c->F, 3 * c->N, c->damping, c->N, c->s, c->N, &stage, &place,
+                                &count);
     return (struct second_answer){(unsigned)number, (unsigned)stage, (unsigned)place, count};
 }
 
 static struct second_channel lend(struct channel *c)
 {
     return (struct second_channel){c->N, c->X, c->T, c->accepted, c->wanted, {c->h, c->N}, {c->e, c->N}, {c->u, c->N},
-                                   {c->V, c->N}, {c->Q, 3 * (c->N - 1)}, {c->F, 3 * c->N}};
+                                   {c->V, c->N}, {c->Q, 3 * (c->N - 1)}, {c->F, 3 * c->N}, {c->damping, c->N}};
 }
 
 static struct second_answer second_does(struct channel *c)
@@ -43,14 +44,16 @@ static struct second_answer second_does(struct channel *c)
     return a;
 }
 
-/* A smooth hump of 20 mm let go from rest in water of 1 m, over a bottom that rises gently. */
-static struct channel hump(size_t N)
+/* A smooth hump of 20 mm let go from rest in water of 1 m, over a bottom that rises gently, with one damping in all
+   cells. */
+static struct channel hump(size_t N, int64_t damping)
 {
     struct channel c = {.N = N, .X = 500, .T = 20, .wanted = 1000000};
     for (size_t j = 0; j < N; j++) {
         int64_t far = ((int64_t)(2 * j) - (int64_t)N) * 1000 / (int64_t)N;
         c.h[j] = 1000 - (int64_t)j * 200 / (int64_t)N;
         c.e[j] = far > -300 && far < 300 ? 20000 * (90000 - far * far) / 90000 : 0;
+        c.damping[j] = damping;
     }
     struct second_channel lent = lend(&c);
     if (second_make(&lent).number) {
@@ -85,9 +88,9 @@ static double timed(stepper *step, struct channel c, long steps, long *stages, s
     return seconds;
 }
 
-static void compare(size_t N, long steps)
+static void compare(size_t N, int64_t damping, long steps)
 {
-    struct channel c = hump(N), a, b;
+    struct channel c = hump(N, damping), a, b;
     double best[2] = {1e9, 1e9};
     long stages = 0;
     for (int round = 0; round < ROUNDS; round++) {
@@ -100,7 +103,7 @@ static void compare(size_t N, long steps)
         fputs("the two differ\n", stderr);
         exit(1);
     }
-    printf("%5zu", N);
+    printf("%5zu %8d", N, (int)damping);
     for (int i = 0; i < 2; i++)
         printf(" %12.0f %10.1f", (double)steps / best[i], 1e9 * best[i] / ((double)stages * (double)N));
     printf(" %8.2f %8.2f\n", best[0] / best[1], (double)stages / (double)steps);
@@ -144,17 +147,18 @@ static size_t touched(void *(*work)(void *), void *given)
 static size_t stack_of(stepper *step)
 {
     static struct one_step one;
-    one = (struct one_step){step, hump(256)};
+    one = (struct one_step){step, hump(256, 0)};
     return touched(run_one, &one) - touched(run_none, NULL);
 }
 
 int main(void)
 {
-    printf("        library                 second program\n");
-    printf("    N      steps/s ns/cell·st      steps/s ns/cell·st    ratio stages/step\n");
-    compare(256, 400);
-    compare(64, 1600);
-    compare(8, 6000);
+    printf("                 library                 second program\n");
+    printf("    N  damping      steps/s ns/cell·st      steps/s ns/cell·st    ratio stages/step\n");
+    compare(256, 0, 400);
+    compare(256, 100, 400);
+    compare(64, 0, 1600);
+    compare(8, 0, 6000);
     printf("stack of one step at N = 256: library %zu bytes, second program %zu bytes\n", stack_of(library_step),
            stack_of(second_does));
     return 0;

@@ -17,7 +17,7 @@ function seconds(work) {
 function best(pathpetal, call, steps, before, after) {
     let least = Infinity;
     for (let round = 0; round < ROUNDS; round++) {
-        const file = new Uint8Array(before), nothing = new Uint8Array((file.length - 24) / 16);
+        const file = new Uint8Array(before), nothing = new Uint8Array((file.length - 28) / 17);
         const took = seconds(() => {
             if (call === 'run')
                 pathpetal.run(file, steps);
@@ -36,16 +36,18 @@ async function times(list, folder) {
     const pathpetal = await load(readFileSync(wasm));
     const name = process.arch === 'arm64' ? 'Arm archive' : 'x86-64 archive';
     const column = (text) => text.padStart(27), both = 'steps/s'.padStart(12) + 'ns/cell·stage'.padStart(15);
-    console.log(`             ${[name, 'second program', 'WebAssembly in node'].map(column).join('')}    ratio to second program`);
-    console.log(`    N  call  ${both.repeat(3)}    archive  WebAssembly  stages/step`);
+    const names = [name, 'second program', 'WebAssembly in node'].map(column).join('');
+    console.log(`                      ${names}    ratio to second program`);
+    console.log(`    N  damping  call  ${both.repeat(3)}    archive  WebAssembly  stages/step`);
     for (const line of readFileSync(list, 'utf8').trim().split('\n')) {
-        const [cells, call, ...numbers] = line.split(' ');
+        const [cells, damping, call, ...numbers] = line.split(' ');
         const [steps, stages, archive, second] = numbers.map(Number);
-        const [before, after] = ['before', 'after'].map((when) => readFileSync(`${folder}/${cells}.${when}`));
+        const [before, after] = ['before', 'after'].map((when) => readFileSync(`${folder}/${cells}-${damping}.${when}`));
         const took = [archive, second, best(pathpetal, call, steps, before, after)];
         const shown = took.map((s) => (steps / s).toFixed(0).padStart(12) + (1e9 * s / (stages * cells)).toFixed(1).padStart(15));
-        console.log(`${cells.padStart(5)}  ${call.padEnd(6)}${shown.join('')}${(took[0] / took[1]).toFixed(2).padStart(11)}` +
-            `${(took[2] / took[1]).toFixed(2).padStart(13)}${(stages / steps).toFixed(2).padStart(13)}`);
+        console.log(`${cells.padStart(5)}  ${damping.padStart(7)}  ${call.padEnd(6)}${shown.join('')}` +
+            `${(took[0] / took[1]).toFixed(2).padStart(11)}${(took[2] / took[1]).toFixed(2).padStart(13)}` +
+            `${(stages / steps).toFixed(2).padStart(13)}`);
     }
 }
 
@@ -55,10 +57,10 @@ async function stack(bytes) {
     const { instance } = await WebAssembly.instantiate(readFileSync(wasm), {});
     const { memory, ...calls } = instance.exports;
     const at = 65536 * memory.grow(1), room = new Uint8Array(memory.buffer), painted = room.subarray(0, bytes);
-    const cells = 256, length = 24 + 64 * cells, lent = (place, size) => [at + place, BigInt(size)];
+    const cells = 256, length = 28 + 68 * cells, lent = (place, size) => [at + place, BigInt(size)];
     const file = lent(0, length), heights = lent(20480, 4 * cells), depths = lent(24576, 4 * cells);
     room.set(row(Array(cells).fill(1000)), at + 24576);
-    const make = () => calls.pathpetal_make(256n, 500n, 20n, 9n, ...depths, ...heights, ...heights, ...file);
+    const make = () => calls.pathpetal_make(256n, 500n, 20n, 9n, ...depths, ...heights, ...heights, ...heights, ...file);
     const work = {
         make, check: () => calls.pathpetal_check(...file), step: () => calls.pathpetal_step(...file, ...heights),
         filter: () => calls.pathpetal_filter(...file), run: () => calls.pathpetal_run(...file, 3n),

@@ -1,5 +1,5 @@
 /* The library and the second program on the same calls: answers and every lent value equal to the bit.
-   usage: calls [CALLS]   prints how often each refusal, stage, k, tie, place, time step at its bound and start
+   usage: calls [CALLS]   prints how often each refusal, stage, k, tie, place, time step at its bound, damping and start
                           occurred, all of which must, and last 'N passed, M failed'
           calls CALLS some   the same calls, but too few of them for all of that to occur
           calls scenes COUNT   draws that many scenes with the second program alone, and prints the first three in
@@ -11,12 +11,12 @@
 #include <inttypes.h>
 #include <stdio.h>
 
-enum { NUMBERS = 38, STAGES = 11 };
+enum { NUMBERS = 39, STAGES = 11 };
 static const char *const names[KINDS] = {"make", "step", "filter", "run"};
 
 #define LENT(i) c->row[i], c->len[i]
 #define COUNTS(accepted) (size_t)c->N, c->X, c->T, accepted, c->wanted
-#define CHANNEL LENT(ROW_h), LENT(ROW_e), LENT(ROW_u), LENT(ROW_V), LENT(ROW_Q), LENT(ROW_F)
+#define CHANNEL LENT(ROW_h), LENT(ROW_e), LENT(ROW_u), LENT(ROW_V), LENT(ROW_Q), LENT(ROW_F), LENT(ROW_damping)
 #define ANSWER &stage, &place, &count
 
 static struct answer library_does(enum kind kind, struct call *c)
@@ -37,8 +37,25 @@ static bool same(struct answer a, struct answer b, const struct call *left, cons
            !memcmp(left, other, sizeof *left);
 }
 
+/* Whether a call left the rows that it may only read as they were, and what lies beside them. */
+static bool kept(const struct call *c, const struct call *left)
+{
+    size_t size = sizeof c->row[0];
+    return !memcmp(left->row[ROW_h], c->row[ROW_h], size) && !memcmp(left->row[ROW_s], c->row[ROW_s], size) &&
+           !memcmp(left->row[ROW_damping], c->row[ROW_damping], size);
+}
+
+/* What lies past a row's length is other than anything that a call leaves. */
+static void put_canaries(struct call *c)
+{
+    for (int i = 0; i < ROWS; i++)
+        for (size_t j = c->len[i]; j < ROOM; j++)
+            c->row[i][j] = INT64_MAX - (int64_t)j;
+}
+
 /* How often each tie was met, and how many calls, up to ENOUGH, it decides: they leave something else when it is
-   rounded the other way. Those of a step's sums are told apart by its row of weights; a run's are together. */
+   rounded the other way. Those of a step's sums are told apart by its row of weights, and a run's are together; those
+   of what the damping takes are told apart by the calls. */
 enum { ENOUGH = 20, OF_RUNS = RUNGS, GROUPS };
 static long ties_met[GROUPS][TIES], ties_decide[GROUPS][TIES];
 
@@ -46,14 +63,18 @@ static bool is_weighed(int place) { return place < FILTERED_G; }
 
 static int group_of(enum kind kind, const struct call *c, int place)
 {
-    return !is_weighed(place) ? 0 : kind == STEP ? rung_of(c) : OF_RUNS;
+    return is_weighed(place) ? (kind == STEP ? rung_of(c) : OF_RUNS) : place == DAMPED ? (int)kind : 0;
 }
+
+/* How often F and what the damping takes from it would be another number if they were rounded at once, and how many
+   calls, up to ENOUGH, that decides. */
+static long apart_met[KINDS], apart_decides[KINDS];
 
 /* The second program has done the call on c: it answered a and left this. */
 static void count_ties(enum kind kind, const struct call *c, struct answer a, const struct call *left)
 {
     static struct call other;
-    long here[TIES];
+    long here[TIES], apart_here = apart;
     memcpy(here, ties, sizeof here);
     for (turned = 0; turned < TIES; turned++) {
         int group = group_of(kind, c, place_of(turned));
@@ -62,6 +83,13 @@ static void count_ties(enum kind kind, const struct call *c, struct answer a, co
             other = *c;
             ties_decide[group][turned] += !same(a, second_does(kind, &other), left, &other);
         }
+    }
+    apart_met[kind] += apart_here;
+    if (apart_here && apart_decides[kind] < ENOUGH) {
+        other = *c;
+        at_once = 1;
+        apart_decides[kind] += !same(a, second_does(kind, &other), left, &other);
+        at_once = 0;
     }
 }
 
@@ -158,6 +186,102 @@ static void count_place(long *at, uint64_t place, size_t places)
     at[place == 1 ? FIRST : place == places ? LAST : BETWEEN]++;
 }
 
+/* How a damping number is outside its range, and how often it is told, alone in its row, with the first place, one
+   between and the last. */
+enum { BELOW_BY_1, ABOVE_BY_1, BELOW, ABOVE, LEAST, MOST, BY_HIGH_BITS, OUTSIDES };
+static const char *const outsides[OUTSIDES] = {
+    "-1", "10,001", "further below", "further above", "the least of 64 bits", "the most of 64 bits",
+    "in range by 32 bits",
+};
+static long outside_by[KINDS][OUTSIDES][LAST + 1];
+
+static int how_outside(int64_t damping)
+{
+    if (damping == -1 || damping == 10001)
+        return damping < 0 ? BELOW_BY_1 : ABOVE_BY_1;
+    if (damping == INT64_MIN || damping == INT64_MAX)
+        return damping < 0 ? LEAST : MOST;
+    return (uint32_t)damping <= 10000 ? BY_HIGH_BITS : damping < 0 ? BELOW : ABOVE;
+}
+
+/* How often the damping was at fault beside something else: a count, length or row that is told before it, or one that
+   is told after it, or a complete channel. */
+static long beside_38[KINDS][NUMBERS];
+
+/* How often its length alone was refused: one cell too few, and one too many. */
+static long lengths_by_1[KINDS][2];
+
+/* Counts a refusal 1 or 2. */
+static void count_form(enum kind kind, const struct call *c, uint64_t number)
+{
+    const size_t N = (size_t)c->N, len = c->len[ROW_damping];
+    bool outside = false, others = N >= 8 && N <= CELLS;
+    for (size_t j = 0; j < len && j < N; j++)
+        outside = outside || !in_range(ROW_damping, c->row[ROW_damping][j]);
+    for (int row = 0; row < ROW_damping; row++)
+        others = others && (c->len[row] == levels_of(row) * (N - (row == ROW_Q)) || (row == ROW_s && kind != STEP));
+    beside_38[kind][number] += outside;
+    if (others && (len == N - 1 || len == N + 1))
+        lengths_by_1[kind][len > N]++;
+}
+
+/* Counts a refusal of a call whose damping is at fault, for it or for a row before it. */
+static void count_beside(enum kind kind, const struct call *c, const struct searched *told, const struct searched *end)
+{
+    if (told->number != 38) {
+        beside_38[kind][told->number]++;
+        return;
+    }
+    for (const struct searched *s = told + 1; s < end; s++)
+        beside_38[kind][s->number] += lowest_of(s) != 0;
+    beside_38[kind][11] += kind != MAKE && c->accepted == c->wanted;
+}
+
+/* The damping of an accepted call: how often it was such, and how many of them, up to ENOUGH, leave something else
+   without it. */
+enum { NO_CELL, FIRST_ALONE, BETWEEN_ALONE, LAST_ALONE, ALL_CELLS, ALL_MOST, AT_ENDS, RISING, FALLING, SHAPES };
+static const char *const shapes[SHAPES] = {
+    "in no cell", "in the first cell alone", "in one between alone", "in the last cell alone", "in all cells",
+    "10,000 in all cells", "0, 1, 9,999 and 10,000", "rising", "falling",
+};
+static long shaped[KINDS][SHAPES][2];
+
+static bool other_undamped(enum kind kind, const struct call *c, struct answer a, const struct call *left)
+{
+    static struct call other;
+    other = *c;
+    memset(other.row[ROW_damping], 0, c->len[ROW_damping] * sizeof(int64_t));
+    struct answer b = second_does(kind, &other);
+    memcpy(other.row[ROW_damping], left->row[ROW_damping], sizeof other.row[ROW_damping]);
+    return !same(a, b, left, &other);
+}
+
+static void count_damping(enum kind kind, const struct call *c, struct answer a, const struct call *left)
+{
+    const int64_t *row = c->row[ROW_damping];
+    size_t N = (size_t)c->N, none = 0, least = 0, less = 0, most = 0, up = 0, down = 0;
+    if (a.number)
+        return;
+    for (size_t j = 0; j < N; j++) {
+        none += row[j] == 0;
+        least += row[j] == 1;
+        less += row[j] == 9999;
+        most += row[j] == 10000;
+        up += j > 0 && row[j] > row[j - 1];
+        down += j > 0 && row[j] < row[j - 1];
+    }
+    bool one = none == N - 1, in_first = row[0] > 0, in_last = row[N - 1] > 0;
+    const bool has[SHAPES] = {
+        none == N, one && in_first, one && !in_first && !in_last, one && in_last, none == 0, most == N,
+        none && least && less && most, up > 1 && !down, down > 1 && !up,
+    };
+    for (int shape = 0; shape < SHAPES; shape++) {
+        shaped[kind][shape][0] += has[shape];
+        if (has[shape] && shape != NO_CELL && shaped[kind][shape][1] < ENOUGH)
+            shaped[kind][shape][1] += other_undamped(kind, c, a, left);
+    }
+}
+
 /* Counts a refusal of the input for the first row at fault. */
 static void count_input(enum kind kind, const struct call *c, const struct searched *told, const struct searched *end,
                         struct answer a)
@@ -178,6 +302,10 @@ static void count_input(enum kind kind, const struct call *c, const struct searc
     }
     if (a.place)
         count_place(at, a.place, told->len);
+    if (told->number == 38 && faults_in(told) == 1) {
+        uint64_t place = lowest_of(told);
+        count_place(outside_by[kind][how_outside(c->row[ROW_damping][place - 1])], place, told->len);
+    }
     at[SEVERAL] += faults > 1;
     at[LATER_LOWER] += later;
     at[TWO_LEVELS] += level;
@@ -253,12 +381,16 @@ static bool count_places(enum kind kind, const struct call *c, struct answer a, 
 {
     static struct searched rows[SEARCHED];
     const struct searched *told = rows, *end = rows + SEARCHED;
-    if (a.number == 1 || a.number == 2)
+    if (a.number == 1 || a.number == 2) {
+        count_form(kind, c, a.number);
         return a.place == 0;
+    }
     find_faults(kind, c, rows);
     while (told < end && !lowest_of(told))
         told++;
-    const struct searched *by_time = end - 2;
+    const struct searched *by_time = end - 2, *by_damping = end - 5; /* the last five are 38, 37, 4, 26 and 5 */
+    if (lowest_of(by_damping))
+        count_beside(kind, c, told, end);
     if (told >= by_time)
         count_time(kind, c, by_time);
     else if (lowest_of(by_time))
@@ -278,21 +410,26 @@ static bool count_places(enum kind kind, const struct call *c, struct answer a, 
 static struct answer compare(enum kind kind, struct call *c)
 {
     static struct call mine, theirs;
+    put_canaries(c);
     mine = theirs = *c;
     memset(ties, 0, sizeof ties);
+    apart = 0;
     struct answer b = second_does(kind, &theirs), a = alone ? b : library_does(kind, &mine);
     bool right = alone || count_places(kind, c, b, &theirs);
     if (!alone) {
         count_ties(kind, c, b, &theirs);
         count_start(kind, c, b, &theirs);
+        count_damping(kind, c, b, &theirs);
     }
-    if (alone || (right && same(a, b, &mine, &theirs))) {
+    bool rows_kept = kept(c, &mine);
+    if (alone || (right && rows_kept && same(a, b, &mine, &theirs))) {
         passed++;
     } else if (failed++ < 10) {
         printf("%s differs: library %" PRIu64 " %" PRIu64 " %" PRIu64 " %" PRIu64, names[kind], a.number, a.stage, a.place,
                a.count);
-        printf(", second %" PRIu64 " %" PRIu64 " %" PRIu64 " %" PRIu64 "%s\n", b.number, b.stage, b.place, b.count,
-               right ? "" : ", where the input's faults are others");
+        printf(", second %" PRIu64 " %" PRIu64 " %" PRIu64 " %" PRIu64 "%s%s\n", b.number, b.stage, b.place, b.count,
+               right ? "" : ", where the input's faults are others",
+               rows_kept ? "" : ", and a row that is only read is other");
         printf("N %" PRIu64 " X %" PRIu64 " T %" PRIu64 " accepted %" PRIu64 " wanted %" PRIu64 "\n", c->N, c->X, c->T,
                c->accepted, c->wanted);
         for (int i = 0; i < ROWS; i++)
@@ -432,6 +569,22 @@ static void bound_scene(struct call *c, uint64_t i)
     compare(kind, c);
 }
 
+/* Calls with damping out of its range, and with halves of what it takes, likewise. */
+static void damped_scene(struct call *c, uint64_t i)
+{
+    state = i * 0x8CB92BA72F3D8DD7u;
+    filtered = false;
+    if (one_in(8)) {
+        damped_halves(c);
+        if (!compare(MAKE, c).number)
+            go_on(c);
+        return;
+    }
+    enum kind kind = (enum kind)(draw() % KINDS);
+    faulty_damping(c, kind);
+    compare(kind, c);
+}
+
 /* Whether a refusal is known to occur in a call at a stage. */
 static bool occurs(enum kind kind, int number, int stage)
 {
@@ -567,6 +720,98 @@ static bool times_seen(void)
     return all;
 }
 
+/* Whether the damping must have been at fault beside that. A complete channel is no fault of a run, and 38 still is. */
+static bool occurs_beside_38(enum kind kind, int number)
+{
+    return number == 1 || number == 2 || number == 4 || number == 5 || number == 26 || (number == 11 && kind != MAKE) ||
+           (number > 30 && number < 38 && reads(kind, number - 31));
+}
+
+static void print_kinds(const char *title)
+{
+    printf("%-40s", title);
+    for (int kind = 0; kind < KINDS; kind++)
+        printf("%16s", names[kind]);
+    printf("\n");
+}
+
+/* Calls by their damping. */
+static void print_dampings(void)
+{
+    print_kinds("accepted with damping, other without");
+    for (int shape = 0; shape < SHAPES; shape++) {
+        printf("%-40s", shapes[shape]);
+        for (int kind = 0; kind < KINDS; kind++)
+            printf("%13ld%3ld", shaped[kind][shape][0], shaped[kind][shape][1]);
+        printf("\n");
+    }
+    print_kinds("rounded at once, and calls it decides");
+    printf("%-40s", "F and what the damping takes");
+    for (int kind = 0; kind < KINDS; kind++)
+        printf("%13ld%3ld", apart_met[kind], apart_decides[kind]);
+    printf("\n");
+    print_kinds("38 alone in its row: first, between, last");
+    for (int by = 0; by < OUTSIDES; by++) {
+        printf("%-40s", outsides[by]);
+        for (int kind = 0; kind < KINDS; kind++)
+            printf("%8ld%4ld%4ld", outside_by[kind][by][FIRST], outside_by[kind][by][BETWEEN],
+                   outside_by[kind][by][LAST]);
+        printf("\n");
+    }
+    print_kinds("the damping at fault beside others");
+    for (int number = 1; number < NUMBERS; number++) {
+        if (!occurs_beside_38(STEP, number))
+            continue;
+        bool before = number < 3 || (number > 30 && number < 37);
+        printf("%2d %-37s", number, before ? "told, and not 38" : "not told, but 38");
+        for (int kind = 0; kind < KINDS; kind++)
+            if (occurs_beside_38((enum kind)kind, number))
+                printf("%16ld", beside_38[kind][number]);
+            else
+                printf("%16s", "");
+        printf("\n");
+    }
+    for (int more = 0; more < 2; more++) {
+        printf(" 1 for its row alone, one cell too %-7s", more ? "long" : "short");
+        for (int kind = 0; kind < KINDS; kind++)
+            printf("%16ld", lengths_by_1[kind][more]);
+        printf("\n");
+    }
+}
+
+static bool dampings_seen(void)
+{
+    bool all = true;
+    for (int kind = 0; kind < KINDS; kind++) {
+        for (int shape = 0; shape < SHAPES; shape++)
+            if (shaped[kind][shape][shape != NO_CELL] < ENOUGH) {
+                printf("fewer than %d calls of %s with damping %s\n", ENOUGH, names[kind], shapes[shape]);
+                all = false;
+            }
+        for (int by = 0; by < OUTSIDES; by++)
+            for (int where = FIRST; where <= LAST; where++)
+                if (!outside_by[kind][by][where]) {
+                    printf("no damping of %s out of its range: %s, %s\n", names[kind], outsides[by], columns[where]);
+                    all = false;
+                }
+        for (int number = 1; number < NUMBERS; number++)
+            if (occurs_beside_38((enum kind)kind, number) && !beside_38[kind][number]) {
+                printf("no damping of %s out of its range beside %d\n", names[kind], number);
+                all = false;
+            }
+        for (int more = 0; more < 2; more++)
+            if (!lengths_by_1[kind][more]) {
+                printf("no damping row of %s one too %s\n", names[kind], more ? "long" : "short");
+                all = false;
+            }
+        if (apart_decides[kind] < ENOUGH) {
+            printf("fewer than %d calls of %s were decided by rounding F and its damping apart\n", ENOUGH, names[kind]);
+            all = false;
+        }
+    }
+    return all;
+}
+
 /* Whether steps or runs must have been met so: by its own row a call ends as it does. */
 static bool start_occurs(int start, int end)
 {
@@ -634,17 +879,22 @@ static bool starts_seen(void)
 
 static const char *const places[PLACES] = {
     "W predicted", "W corrected", "V's quotient predicted", "V's quotient corrected", "G of the filter",
-    "V of the filter", "plain part", "F", "dispersive part", "u", "V of make",
+    "V of the filter", "plain part", "F", "what the damping takes", "dispersive part", "u", "V of make",
 };
 static const char *const nears[NEARS] = {"", ", float smaller than its half", ", float larger than its half"};
 static const char *const sides[4] = {"+ even", "+ odd", "- even", "- odd"};
 
 static const char *const groups[GROUPS] = {", by the first row", ", by the second", ", by the third", ", of runs"};
+static const char *const calls[KINDS] = {", make", ", step", ", filter", ", run"};
 
-/* What a place can have: a quotient is worked out exactly; one that is weighed is told apart by its weights. */
+/* What a place can have: a quotient is worked out exactly; one that is weighed is told apart by its weights, and what the
+   damping takes by the calls. */
 static int nears_of(int place) { return place < DISPERSIVE ? 1 : NEARS; }
-static int groups_of(int place) { return is_weighed(place) ? GROUPS : 1; }
-static const char *kind_of(int place, int near, int group) { return is_weighed(place) ? groups[group] : nears[near]; }
+static int groups_of(int place) { return is_weighed(place) ? GROUPS : place == DAMPED ? KINDS : 1; }
+static const char *kind_of(int place, int near, int group)
+{
+    return is_weighed(place) ? groups[group] : place == DAMPED ? calls[group] : nears[near];
+}
 
 /* The ties of every place, by sign and by the neighbour towards zero: how many were met, and how many calls they
    decide. */
@@ -666,7 +916,7 @@ static void print_ties(void)
             }
 }
 
-/* Each tie must have decided a call: to be met is not enough. */
+/* Each tie must have decided so many calls: to be met is not enough. */
 static bool ties_seen(void)
 {
     bool all = true;
@@ -674,9 +924,9 @@ static bool ties_seen(void)
         for (int near = 0; near < nears_of(place); near++)
             for (int group = 0; group < groups_of(place); group++)
                 for (int side = 0; side < 4; side++)
-                    if (!ties_decide[group][tie_of(place, near, side / 2, side % 2)]) {
-                        printf("no call was decided by a tie of %s%s, %s\n", places[place], kind_of(place, near, group),
-                               sides[side]);
+                    if (ties_decide[group][tie_of(place, near, side / 2, side % 2)] < ENOUGH) {
+                        printf("fewer than %d calls were decided by a tie of %s%s, %s\n", ENOUGH, places[place],
+                               kind_of(place, near, group), sides[side]);
                         all = false;
                     }
     return all;
@@ -711,6 +961,8 @@ int main(int argc, char **argv)
         scene_number(&c, i);
         if (i % 4 == 0)
             fault_scene(&c, i);
+        if (i % 8 == 0)
+            damped_scene(&c, i);
         if (i % 10 == 0)
             bound_scene(&c, i);
     }
@@ -723,6 +975,7 @@ int main(int argc, char **argv)
         printf("step settled at correction %2d: %8ld\n", k, settled_at[k]);
     print_places();
     print_times();
+    print_dampings();
     print_starts();
     print_ties();
     if (!some && !seen())
@@ -730,6 +983,8 @@ int main(int argc, char **argv)
     if (!some && !places_seen())
         failed++;
     if (!some && !times_seen())
+        failed++;
+    if (!some && !dampings_seen())
         failed++;
     if (!some && !starts_seen())
         failed++;

@@ -15,20 +15,38 @@ static const struct {
     {-1000000000000000, 1000000000000000},
     {-100000000000, 100000000000},
     {-1000000, 1000000},
+    {0, 10000},
 };
+
+/* The rows in the order in which they are searched for values outside: the poured amounts come last. */
+static const int searched_as[ROWS] = {ROW_h, ROW_e, ROW_u, ROW_V, ROW_Q, ROW_F, ROW_damping, ROW_s};
 
 static bool in_range(int row, int64_t n) { return n >= ranges[row].low && n <= ranges[row].high; }
 static size_t levels_of(int row) { return row == ROW_Q || row == ROW_F ? 3 : 1; }
 
 /* Whether a call reads the row. */
-static bool reads(enum kind kind, int row) { return row == ROW_s ? kind == STEP : row <= ROW_u || kind != MAKE; }
+static bool reads(enum kind kind, int row)
+{
+    return row == ROW_s ? kind == STEP : row <= ROW_u || row == ROW_damping || kind != MAKE;
+}
+
+/* A value outside a row's range: by one, by more, at an end of 64 bits, or a value in it and so many times 2^32. */
+static int64_t outside(int row)
+{
+    int64_t low = ranges[row].low, high = ranges[row].high, side = PICK(1, -1), further = 1 + magnitude(1000000000);
+    int64_t inside = between(low, high);
+    switch (draw() % 5) {
+    case 0: case 1: return side > 0 ? high + 1 : low - 1;
+    case 2: return side > 0 ? high + further : low - further;
+    case 3: return side > 0 ? INT64_MAX : INT64_MIN;
+    default: return inside + side * (((high - low) >> 32) + further) * ((int64_t)1 << 32);
+    }
+}
 
 static void put_outside(struct call *c, int row)
 {
     size_t levels = levels_of(row), n = c->len[row] / levels, level = draw() % levels, place = any_place(n);
-    int64_t further = one_in(2) ? 1 : magnitude(1000000000);
-    int64_t beyond = one_in(2) ? ranges[row].low - further : ranges[row].high + further;
-    c->row[row][level * n + place] = one_in(5) ? PICK(INT64_MIN, INT64_MAX) : beyond;
+    c->row[row][level * n + place] = outside(row);
 }
 
 /* A cell with less than 1,000 um of water. */
@@ -72,12 +90,22 @@ static int any_fault(enum kind kind)
     return fault;
 }
 
-/* Deep water over narrow cells with one to four faults, as often as not of the same kind. */
-static void faulty(struct call *c, enum kind kind)
+static void put_fault(struct call *c, int fault, int64_t depth)
+{
+    if (fault == FAULT_DRY)
+        put_dry(c);
+    else if (fault == FAULT_LONG)
+        put_long(c, depth);
+    else if (fault == FAULT_DIP)
+        put_dip(c, depth);
+    else
+        put_outside(c, fault);
+}
+
+/* Deep water over narrow cells; its depth. */
+static int64_t deep_water(struct call *c)
 {
     int64_t X = between(10, 4000), depth = between(5 * X, 20000), heights = magnitude(200 * depth - 1000);
-    int64_t count = PICK(1, 1, 2, 3, 4);
-    int fault = any_fault(kind);
     lengths(c, one_in(6) ? (size_t)PICK(255, 256) : (size_t)between(8, 14));
     c->X = (uint64_t)X, c->T = (uint64_t)between(1, longest(depth, X)), c->wanted = (uint64_t)between(1, 5);
     c->accepted = one_in(3) ? c->wanted : open_start(c->wanted);
@@ -88,18 +116,38 @@ static void faulty(struct call *c, enum kind kind)
         c->row[ROW_s][j] = between(-1000000, 1000000);
     }
     any_levels(c);
+    any_damping(c);
+    return depth;
+}
+
+/* The same with one to four faults, as often as not of the same kind. */
+static void faulty(struct call *c, enum kind kind)
+{
+    int64_t depth = deep_water(c), count = PICK(1, 1, 2, 3, 4);
+    int fault = any_fault(kind);
     for (int64_t i = 0; i < count; i++) {
-        if (fault == FAULT_DRY)
-            put_dry(c);
-        else if (fault == FAULT_LONG)
-            put_long(c, depth);
-        else if (fault == FAULT_DIP)
-            put_dip(c, depth);
-        else
-            put_outside(c, fault);
+        put_fault(c, fault, depth);
         if (one_in(2))
             fault = any_fault(kind);
     }
+}
+
+/* The same with a damping number outside its range, in one cell or in several, alone or beside another fault, of a step
+   as often as not a poured amount; or with a damping row that is one cell too short or too long. */
+static void faulty_damping(struct call *c, enum kind kind)
+{
+    int64_t depth = deep_water(c);
+    bool length = one_in(8), poured = kind == STEP && one_in(2);
+    if (!length)
+        do
+            put_outside(c, ROW_damping);
+        while (one_in(3));
+    if (one_in(2))
+        put_fault(c, poured ? ROW_s : any_fault(kind), depth);
+    if (one_in(20))
+        c->T = (uint64_t)PICK(0, 101);
+    if (length || one_in(20))
+        c->len[ROW_damping] += (size_t)PICK(1, -1);
 }
 
 /* A channel at the bound of its time step or beyond it, some with faults that come before or after that. */
@@ -133,6 +181,7 @@ static void drying(struct call *c, enum kind kind)
         memset(c->row[i], 0, c->len[i] * sizeof(int64_t));
     c->X = (uint64_t)X, c->T = (uint64_t)T, c->wanted = 5, c->accepted = open_start(5);
     rung = rung_of(c);
+    any_damping(c);
     for (size_t j = 0; j < c->N; j++) {
         c->row[ROW_h][j] = depth;
         c->row[ROW_e][j] = 1000 - 1000 * depth + (one_in(2) ? high : 0);
@@ -160,7 +209,7 @@ struct searched {
     size_t len;
     bool at[CELLS];
 };
-enum { SEARCHED = 14 };
+enum { SEARCHED = 15 };
 
 static bool dry_at(const struct call *c, size_t j)
 {
@@ -194,7 +243,8 @@ static bool weak_at(const struct call *c, size_t j)
 static void find_faults(enum kind kind, const struct call *c, struct searched *s)
 {
     memset(s, 0, SEARCHED * sizeof *s);
-    for (int row = 0; row < ROWS; row++)
+    for (int i = 0; i < ROWS; i++) {
+        int row = searched_as[i];
         for (size_t level = 0; level < levels_of(row); level++, s++) {
             s->number = 31 + (unsigned)row;
             s->level = (int)level;
@@ -202,6 +252,7 @@ static void find_faults(enum kind kind, const struct call *c, struct searched *s
             for (size_t j = 0; j < s->len; j++)
                 s->at[j] = !in_range(row, c->row[row][level * s->len + j]);
         }
+    }
     s[0].number = 4, s[1].number = 26, s[2].number = 5;
     s[0].len = s[1].len = s[2].len = (size_t)c->N;
     for (size_t j = 0; j < c->N; j++) {

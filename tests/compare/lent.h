@@ -13,19 +13,23 @@
 uint64_t lent_make(size_t N, uint64_t X, uint64_t T, uint64_t *accepted, uint64_t wanted,
     const int64_t *h, size_t h_len, const int64_t *e, size_t e_len,
     const int64_t *u, size_t u_len, int64_t *V, size_t V_len,
-    int64_t *Q, size_t Q_len, int64_t *F, size_t F_len, uint64_t *stage, uint64_t *place, uint64_t *count);
+    int64_t *Q, size_t Q_len, int64_t *F, size_t F_len,
+    const int64_t *damping, size_t damping_len, uint64_t *stage, uint64_t *place, uint64_t *count);
 uint64_t lent_step(size_t N, uint64_t X, uint64_t T, uint64_t *accepted, uint64_t wanted,
     const int64_t *h, size_t h_len, int64_t *e, size_t e_len,
     int64_t *u, size_t u_len, int64_t *V, size_t V_len,
     int64_t *Q, size_t Q_len, int64_t *F, size_t F_len,
+    const int64_t *damping, size_t damping_len,
     const int64_t *s, size_t s_len, uint64_t *stage, uint64_t *place, uint64_t *count);
 uint64_t lent_filter(size_t N, uint64_t X, uint64_t T, uint64_t accepted, uint64_t wanted,
     const int64_t *h, size_t h_len, int64_t *e, size_t e_len,
     int64_t *u, size_t u_len, int64_t *V, size_t V_len,
-    int64_t *Q, size_t Q_len, int64_t *F, size_t F_len, uint64_t *stage, uint64_t *place, uint64_t *count);
+    int64_t *Q, size_t Q_len, int64_t *F, size_t F_len,
+    const int64_t *damping, size_t damping_len, uint64_t *stage, uint64_t *place, uint64_t *count);
 uint64_t lent_run(size_t N, uint64_t X, uint64_t T, uint64_t *accepted, uint64_t wanted,
     const int64_t *h, size_t h_len, int64_t *e, size_t e_len,
     int64_t *u, size_t u_len, int64_t *V, size_t V_len,
-    int64_t *Q, size_t Q_len, int64_t *F, size_t F_len, uint64_t *stage, uint64_t *place, uint64_t *count);
+    int64_t *Q, size_t Q_len, int64_t *F, size_t F_len,
+    const int64_t *damping, size_t damping_len, uint64_t *stage, uint64_t *place, uint64_t *count);
 
 #endif

@@ -25,6 +25,7 @@ static bool at_the_brink(struct call *c)
         c->row[ROW_s][j] = 0;
         shape[j] = between(-1000, 1000);
     }
+    any_damping(c);
     for (trial = *c; high - low > 1;) {
         int64_t speed = (low + high) / 2;
         for (size_t j = 0; j < c->N; j++)
@@ -47,11 +48,11 @@ static bool at_the_brink(struct call *c)
     return true;
 }
 
-/* Seeds of those whose step is refused 9 at the corrections 4 to 10, three for each, found by trying one after the other
-   with the second program alone: of drawn ones it is one in some 400. */
+/* Seeds of those whose step is refused 9 at the corrections 4 to 10, three for each, the first of them without damping,
+   found by trying one after the other with the second program alone: of drawn ones it is one in some 400. */
 static const uint64_t late_brinks[] = {
-    10202, 10470, 10818, 12263, 14101, 15884, 12984, 16881, 19316, 10162, 12021,
-    12397, 19623, 20317, 21234, 1714,  24719, 27977, 12101, 19960, 35449,
+    714,   1481,  4668, 496,   1683, 5251, 409,   884,  3622,  5044,  8908,
+    15220, 26383, 830,  21234, 1714, 6390, 43215, 9689, 12021, 13457,
 };
 enum { LATE_BRINKS = sizeof late_brinks / sizeof *late_brinks };
 static bool late_brink(struct call *c, size_t i)
@@ -71,6 +72,7 @@ static void just_too_rough(struct call *c, enum kind kind)
     c->X = (uint64_t)X, c->T = (uint64_t)between(1, longest(depth, X)), c->wanted = 5, c->accepted = open_start(5);
     for (size_t j = 0; j < c->N; j++)
         c->row[ROW_h][j] = depth, shape[j] = between(-1000, 1000);
+    any_damping(c);
     while (high - low > 1) {
         int64_t rough = (low + high) / 2;
         trial = *c;
@@ -136,6 +138,7 @@ static bool moved_halves(struct call *c)
         c->row[ROW_u][j] = c->row[ROW_s][j] = 0;
         c->row[ROW_V][j] = between(-noise, noise);
     }
+    any_damping(c);
     for (int i = ROW_Q; i <= ROW_F; i++)
         for (size_t j = 0; j < c->len[i] / 3; j++) {
             late[i][j] = one_in(2);
@@ -178,6 +181,7 @@ static bool small_halves(struct call *c)
         c->row[ROW_h][j] = 1000 * (int64_t)c->X;
         c->row[ROW_V][j] = (twice[j + 1] - 780039 * ((twice[j] - 2 * twice[j + 1] + twice[j + 2]) / 2)) / 2;
     }
+    any_damping(c);
     struct second_channel channel = channel_of(c);
     if (!predicted_levels(&channel, poured_of(c), Q, F))
         return false;
@@ -200,6 +204,7 @@ static void just_too_fast(struct call *c)
     size_t j = (size_t)between(0, 6);
     for (size_t i = 0; i < c->N; i++)
         c->row[ROW_h][i] = depth, c->row[ROW_V][i] = between(-1000, 1000);
+    any_damping(c);
     for (size_t at = j; at <= j + 1; at++) {
         int64_t *V = &c->row[ROW_V][at], low = at == j ? 0 : *V, high = at == j ? sign * 40000000 : *V + sign * 1000;
         while (llabs(high - low) > 1) {
@@ -232,6 +237,7 @@ static void just_dry(struct call *c)
     for (size_t j = 0; j < c->len[ROW_Q]; j++)
         c->row[ROW_Q][j] = sign * levels[j / (c->N - 1)];
     c->row[ROW_e][sign > 0 ? 0 : 7] = 1000 - 20000000 + W;
+    any_damping(c);
 }
 
 /* Making, with a V out of its range by less than a half, or seldom in it by as little. */
@@ -253,6 +259,7 @@ static void just_too_large(struct call *c)
     } while (2 * off > w);
     for (size_t i = 0; i < c->N; i++)
         u[i] *= sign;
+    any_damping(c);
 }
 
 /* Making, with a dispersive part of 10^15 + 1/4, or seldom with one that is in its range: known depths and velocities,
@@ -271,6 +278,7 @@ static void just_too_dispersive(struct call *c)
         c->row[ROW_e][j] = i < 2 ? 1000 - 1000 * h[i] : i == 2 ? 20000000 : 0;
         c->row[ROW_u][j] = i < 3 ? sign * (u[i] - (i == 0 ? less : 0)) : 0;
     }
+    any_damping(c);
 }
 
 /* A filter pass in which about half of all G and V are exactly halves. */
@@ -299,6 +307,7 @@ static void flow_halves(struct call *c)
         c->row[ROW_e][j] = between(-30, 30);
         c->row[ROW_u][j] = m * between(-300, 300);
     }
+    any_damping(c);
 }
 
 /* Making, at 100 widths of depth: every inner V is a half in exact arithmetic, and w differs from scene to scene. */
@@ -315,11 +324,30 @@ static void made_halves(struct call *c)
     } while (llabs(3 * u[7] - u[6]) > 200 * most);
     for (int j = 0; j < 8; j++)
         c->row[ROW_h][j] = 100 * X, c->row[ROW_e][j] = 0;
+    any_damping(c);
 }
 
 static int64_t common_divisor(int64_t a, int64_t b)
 {
     return b ? common_divisor(b, a % b) : a;
+}
+
+/* Making, with products of damping and u over 1,000 that are exactly halves, but for a few whose u is one off. A damping
+   number that 8 does not divide has them for every odd number of 500 over its divisor in common with 1,000. */
+static void damped_halves(struct call *c)
+{
+    int64_t speeds = magnitude(19000000), h = between(100, 1000);
+    lengths(c, (size_t)between(8, 14));
+    c->X = (uint64_t)between(1000, 5000), c->T = (uint64_t)between(1, 20), c->wanted = 5, c->accepted = 0;
+    for (size_t j = 0; j < c->N; j++) {
+        int64_t damping = 8 * between(0, 1249) + between(1, 7), unit = 500 / common_divisor(1000, damping);
+        int64_t most = speeds / (2 * unit), off = one_in(8) ? PICK(1, -1) : 0;
+        c->row[ROW_h][j] = h;
+        c->row[ROW_e][j] = between(-1000, 1000);
+        c->row[ROW_u][j] = unit * (2 * between(-most, most) + 1) + off;
+        c->row[ROW_s][j] = 0;
+        c->row[ROW_damping][j] = damping;
+    }
 }
 
 /* Making, over a bottom whose r is rounded as a rule; about half of the dispersive parts are halves in exact
@@ -338,6 +366,7 @@ static bool dispersive_halves(struct call *c)
         c->row[ROW_e][j] = 0;
         c->row[ROW_u][j] = unit * between(-100, 100);
     }
+    any_damping(c);
     return true;
 }
 

@@ -11,8 +11,8 @@
 #include <stdlib.h>
 #include <string.h>
 
-enum { CELLS = 256, ROOM = 3 * CELLS + 16, ROWS = 7 };
-enum { ROW_h, ROW_e, ROW_u, ROW_V, ROW_Q, ROW_F, ROW_s };
+enum { CELLS = 256, ROOM = 3 * CELLS + 16, ROWS = 8 };
+enum { ROW_h, ROW_e, ROW_u, ROW_V, ROW_Q, ROW_F, ROW_s, ROW_damping }; /* the refusals 31 to 38 */
 enum kind { MAKE, STEP, FILTER, RUN, KINDS };
 
 /* A call's whole input, or all that it leaves. What lies past a row's length is a canary. */
@@ -37,7 +37,7 @@ static struct second_channel channel_of(struct call *c)
     for (int i = 0; i < ROWS; i++)
         r[i] = (struct second_row){c->row[i], c->len[i]};
     return (struct second_channel){c->N, c->X, c->T, c->accepted, c->wanted, r[ROW_h], r[ROW_e],
-                                   r[ROW_u], r[ROW_V], r[ROW_Q], r[ROW_F]};
+                                   r[ROW_u], r[ROW_V], r[ROW_Q], r[ROW_F], r[ROW_damping]};
 }
 
 static struct second_read_row poured_of(const struct call *c)
@@ -97,6 +97,32 @@ static int64_t magnitude(int64_t top)
     int64_t most = (int64_t)1 << draw() % (uint64_t)(bits + 1);
     int64_t size = between(most / 2, most);
     return size < top ? size : top;
+}
+
+/* Damping numbers that are allowed. Every second channel has none; the others have them in one cell alone, alike in all
+   cells, at either end of their range, less and less from a wall on, in odd numbers of 500, whose products with an odd u
+   are halves, or any. They are drawn apart: what else is drawn does not hang on them. */
+static void any_damping(struct call *c)
+{
+    uint64_t others = state;
+    state ^= 0x6A09E667F3BCC909u;
+    uint64_t shape = draw() % 14;
+    int64_t N = (int64_t)c->N, most = one_in(3) ? 10000 : 1 + magnitude(9999), far = between(2, N);
+    size_t one = any_place((size_t)N);
+    bool last = one_in(2);
+    for (int64_t j = 0; j < N; j++) {
+        int64_t *damping = &c->row[ROW_damping][j], from = last ? N - 1 - j : j;
+        switch (shape) {
+        case 0: *damping = (size_t)j == one ? most : 0; break;
+        case 1: *damping = most; break;
+        case 2: *damping = PICK(0, 1, 9999, 10000); break;
+        case 3: *damping = from < far ? most * (far - from) / far : 0; break;
+        case 4: case 5: *damping = 1000 * between(0, 9) + 500; break;
+        case 6: *damping = between(0, most); break;
+        default: *damping = 0; break;
+        }
+    }
+    state = others;
 }
 
 /* Steps accepted so far, and not all that are wanted: none, one, two, three and all but one are as likely, and counts
@@ -160,7 +186,7 @@ static void shorten(struct call *c)
         c->T = (uint64_t)T;
 }
 
-/* Counts, an uneven bottom, heights, velocities and a poured row; V and the levels are what they were. */
+/* Counts, an uneven bottom, heights, velocities, a poured row and damping; V and the levels are what they were. */
 static void scene(struct call *c)
 {
     size_t N = one_in(40) ? (size_t)between(8, 256) : (size_t)between(8, 14);
@@ -183,6 +209,7 @@ static void scene(struct call *c)
         c->row[ROW_u][j] = smooth ? -(speeds / period * turn) : between(-speeds, speeds);
         c->row[ROW_s][j] = pours ? between(-pours, pours) : 0;
     }
+    any_damping(c);
     shorten(c);
 }
 
@@ -223,6 +250,7 @@ static void at_the_bound(struct call *c)
         memset(c->row[i], 0, c->len[i] * sizeof(int64_t));
     c->X = (uint64_t)X, c->T = (uint64_t)T, c->wanted = (uint64_t)between(1, 5);
     c->accepted = one_in(4) ? c->wanted : open_start(c->wanted);
+    any_damping(c);
     if (one_in(3))
         any_levels(c);
     for (size_t j = 0; j < c->N; j++)
@@ -235,7 +263,8 @@ static void at_the_bound(struct call *c)
 /* One value or length of the input at its bound or beyond it. */
 static void spoil(struct call *c)
 {
-    static const int64_t bounds[ROWS] = {20000, 20000000, 20000000, 2000000000, 1000000000000000, 100000000000, 1000000};
+    static const int64_t bounds[ROWS] = {20000, 20000000, 20000000, 2000000000, 1000000000000000, 100000000000, 1000000,
+                                        10000};
     int i = (int)(draw() % ROWS);
     uint64_t counts[] = {0, 1, 7, 8, 9, 10, 11, 99, 100, 101, 255, 256, 257, 4999, 5000, 5001, 999999, 1000000, 1000001,
                          UINT32_MAX, (uint64_t)1 << 32, INT64_MAX, UINT64_MAX};
@@ -270,6 +299,7 @@ static void reduced_halves(struct call *c)
     } while (llabs(3 * u[7] - u[6]) > 490000);
     for (int j = 0; j < 8; j++)
         c->row[ROW_h][j] = 1000, c->row[ROW_e][j] = 0;
+    any_damping(c);
 }
 
 /* Dispersive parts of make that are halves in exact arithmetic. */
@@ -279,6 +309,7 @@ static void flux_halves(struct call *c)
     c->X = 1000, c->T = 1, c->wanted = 1, c->accepted = 0;
     for (int j = 0; j < 8; j++)
         c->row[ROW_h][j] = 3000, c->row[ROW_e][j] = 0, c->row[ROW_u][j] = between(-10000000, 10000000);
+    any_damping(c);
 }
 
 /* A step that leaves V as it is and whose every u is a half in exact arithmetic: the depth is 20 widths, each second
@@ -307,6 +338,7 @@ static void velocity_halves(struct call *c)
         c->row[ROW_e][j] = 1000000;
         c->row[ROW_V][j] = (5000 * twice[j] + 1560078 * D[j]) / 10000; /* u + 156.0078 D */
     }
+    any_damping(c);
 }
 
 /* A channel of deep water that, once it is made and so many of its steps are accepted, has a flux just out of range in
@@ -324,6 +356,7 @@ static bool just_too_much(struct call *c)
         c->row[ROW_s][j] = 0;
         shape[j] = between(-1000, 1000);
     }
+    any_damping(c);
     shorten(c);
     while (high - low > 1) {
         int64_t speed = (low + high) / 2;
@@ -366,6 +399,7 @@ static void violent(struct call *c)
         c->row[ROW_u][j] = between(-speeds, speeds);
         c->row[ROW_s][j] = shallow && one_in(6) ? between(0, 1000000) : 0;
     }
+    any_damping(c);
 }
 
 #endif
