@@ -15,7 +15,7 @@
 enum which { PLACE, FEED, READ, CALLS };
 static const char *const call_names[CALLS] = {"place", "feed", "read"};
 
-enum { FILE_MOST = 17000, STATE_MOST = 1200, READINGS_MOST = 100 };
+enum { FILE_MOST = 17600, STATE_MOST = 1200, READINGS_MOST = 100 };
 
 /* A call's whole input. */
 struct call {

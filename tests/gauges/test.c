@@ -23,7 +23,8 @@ static long passed, failed, records, moments, feeds, waves_met[RECORD_KINDS], re
 /* What else must be met. */
 enum event { NO_HEIGHT, ONE_HEIGHT, TWO_HEIGHTS, THREE_HEIGHTS, MANY_HEIGHTS, STARTS_ABOVE, CROSSES_AT_ZERO,
              ZERO_AFTER_ZERO, ENDS_AT_CROSSING, NO_WAVE, LOWER_BEFORE, HIGHER_OPEN, LARGE_SUM, LARGEST_WAVE,
-             AT_ONE_CELL, PLACED_LATE, WENT_ON, EMPTIED, IN_A_GAP, EIGHT, NO_GAUGE, FED_COMPLETE, EVENTS };
+             AT_ONE_CELL, PLACED_LATE, WENT_ON, EMPTIED, IN_A_GAP, EIGHT, NO_GAUGE, FED_COMPLETE, FED_DAMPED,
+             RUN_DAMPED, EVENTS };
 static const char *const event_names[EVENTS] = {
     "records of no height",
     "of one",
@@ -47,11 +48,13 @@ static const char *const event_names[EVENTS] = {
     "eight gauges at once",
     "feedings without a gauge",
     "feedings by a complete channel",
+    "feedings by a damped channel",
+    "steps of a real run of damped water that were fed",
 };
 static long events[EVENTS];
 
 /* Answers by call and number: 0 where the channel's file is at fault, 1 otherwise. */
-enum { NUMBERS_MOST = 38 };
+enum { NUMBERS_MOST = 39 };
 static long answers[CALLS][NUMBERS_MOST][2];
 static long states, lengths_tried, placed_in[GAUGES + 1];
 
@@ -94,6 +97,26 @@ static void no_gauges(struct call *c)
     memset(c->state, 0, STATE);
 }
 
+/* A damping row: of zeros, or with dampings from one cell to another, each the most or of any size. */
+static void draw_dampings(uint8_t *row, size_t N)
+{
+    bool none = one_in(3);
+    size_t from = one_in(2) ? 0 : draw() % N, to = one_in(2) ? N : from + 1 + draw() % (N - from);
+    int64_t least = PICK(10000, 1);
+    for (size_t j = 0; j < N; j++) {
+        int64_t damping = between(least, 10000);
+        put(row + 4 * j, !none && j >= from && j < to ? (uint64_t)damping : 0, 4);
+    }
+}
+
+static bool is_damped(const struct call *c)
+{
+    bool damped = false;
+    for (size_t j = 0; j < pathpetal_cells(c->file); j++)
+        damped |= pathpetal_damping(c->file, j) > 0;
+    return damped;
+}
+
 /* The file of a channel so deep that every height may stand in every cell, and with cells at least so wide that every
    time step is allowed. */
 static void channel(struct call *c, size_t N)
@@ -101,19 +124,20 @@ static void channel(struct call *c, size_t N)
     uint64_t n = N;
     uint64_t accepted = (uint64_t)between(0, 50), step = (uint64_t)PICK(100, between(1, 100));
     uint64_t width = (uint64_t)PICK(572, 5000);
-    const uint64_t head[12] = {1, n, width, step, accepted, 50, 48, 48 + 4 * n, 48 + 8 * n, 48 + 12 * n, 48 + 16 * n,
-                               24 + 40 * n};
+    const uint64_t head[13] = {2, n, width, step, accepted, 50, 52, 52 + 4 * n, 52 + 8 * n, 52 + 12 * n, 52 + 16 * n,
+                               28 + 40 * n, 28 + 64 * n};
     c->file_len = pathpetal_length(N);
     memset(c->file, 0, c->file_len);
-    for (size_t i = 0; i < 12; i++)
+    for (size_t i = 0; i < 13; i++)
         put(c->file + 4 * i, head[i], 4);
     for (size_t j = 0; j < N; j++)
-        put(c->file + 48 + 4 * j, 20000, 4);
+        put(c->file + 52 + 4 * j, 20000, 4);
+    draw_dampings(c->file + 28 + 64 * N, N);
 }
 
 static void set_height(struct call *c, size_t cell, int64_t height)
 {
-    put(c->file + 48 + 4 * (size_t)pathpetal_cells(c->file) + 4 * (cell - 1), (uint64_t)height, 4);
+    put(c->file + 52 + 4 * (size_t)pathpetal_cells(c->file) + 4 * (cell - 1), (uint64_t)height, 4);
 }
 
 static size_t some_cells(void) { return one_in(40) ? (size_t)between(8, 256) : (size_t)between(8, 12); }
@@ -288,7 +312,7 @@ static void feed_all(struct call *c, struct gauge *gauges)
             there++;
         }
     events[NO_GAUGE] += there == 0, events[EIGHT] += there == GAUGES;
-    events[FED_COMPLETE] += pathpetal_complete(c->file);
+    events[FED_COMPLETE] += pathpetal_complete(c->file), events[FED_DAMPED] += is_damped(c);
     answered(FEED, c, 0, "a feeding");
 }
 
@@ -388,7 +412,7 @@ static void real_run(void)
 {
     static struct call c;
     static struct scene s;
-    static uint8_t rows[4][4 * 256];
+    static uint8_t rows[5][4 * 256];
     struct gauge gauges[GAUGES] = {0};
     size_t N = (size_t)between(8, 16);
     if (one_in(2))
@@ -399,10 +423,11 @@ static void real_run(void)
     for (size_t i = 0; i < 4; i++)
         for (size_t j = 0; j < N; j++)
             put(rows[i] + 4 * j, (uint64_t)(int64_t)from[i][j], 4);
+    draw_dampings(rows[4], N);
     c.file_len = pathpetal_length(N);
     no_gauges(&c);
-    uint64_t made = pathpetal_make(N, s.width, s.step, s.wanted, rows[0], 4 * N, rows[1], 4 * N, rows[2], 4 * N, c.file,
-                                   c.file_len);
+    uint64_t made = pathpetal_make(N, s.width, s.step, s.wanted, rows[0], 4 * N, rows[1], 4 * N, rows[2], 4 * N,
+                                   rows[4], 4 * N, c.file, c.file_len);
     expect(made == 0, "a channel for a real run is made");
     if (made)
         return;
@@ -417,8 +442,10 @@ static void real_run(void)
             step = pour ? pathpetal_step(c.file, c.file_len, rows[3], 4 * N) : pathpetal_run(c.file, c.file_len, 1);
             if (pathpetal_number(step) == PATHPETAL_MORE)
                 step = 0;
-            if (pathpetal_number(step) == 0)
+            if (pathpetal_number(step) == 0) {
                 feed_all(&c, gauges);
+                events[RUN_DAMPED] += is_damped(&c);
+            }
             if (one_in(20))
                 compare_now(&c, gauges, "between steps");
         }
@@ -711,19 +738,35 @@ static void other_lengths(void)
 
 /* ---- faults together: the first in the interface's order is the answer ---- */
 
-enum { OWN_FAULTS = 18 };
+enum { OWN_FAULTS = 22 };
+
+/* The same channel in a file of edition 1, which has no damping row and no offset for it. */
+static void to_edition_1(struct call *c)
+{
+    size_t N = pathpetal_cells(c->file);
+    put(c->file, 1, 4);
+    for (size_t i = 0; i < 6; i++)
+        put(c->file + 24 + 4 * i, pathpetal_word(c->file + 24 + 4 * i) - 4, 4);
+    c->file_len = 24 + 64 * N;
+    memmove(c->file + 48, c->file + 52, c->file_len - 48);
+}
 
 /* A fault of the channel's file, with the number and the place that it must be refused with. */
 static uint64_t spoil_file(struct call *c, int fault)
 {
     size_t N = pathpetal_cells(c->file), j = draw() % N, face = draw() % (N - 1), level = draw() % 3;
-    uint8_t *rows = c->file + 48;
+    uint8_t *rows = c->file + 52;
     switch (fault) {
     case 0: c->file_len = draw() % 48; return refused(12);
-    case 1: put(c->file, 2, 4); return refused(13);
-    case 2: put(c->file + 4, (uint64_t)PICK(7, 257, 0, UINT32_MAX), 4); return refused(1);
-    case 3: c->file_len += (size_t)PICK(1, -1, 64, -64); return refused(12);
-    case 4: put(c->file + 24 + 4 * (draw() % 6), 47, 4); return refused(14);
+    case 1: put(c->file, (uint64_t)PICK(0, 1, 3), 4); return refused(13);
+    case 2: /* in a file of any length from 48 bytes */
+        put(c->file + 4, (uint64_t)PICK(7, 257, 0, UINT32_MAX), 4);
+        c->file_len = (size_t)PICK((int64_t)c->file_len, 48, 50, 52);
+        return refused(1);
+    case 3:
+        c->file_len = one_in(2) ? (size_t)PICK(48, 51) : c->file_len + (size_t)PICK(1, -1, 68, -68);
+        return refused(12);
+    case 4: put(c->file + 24 + 4 * (draw() % 7), 47, 4); return refused(14);
     case 5: put(c->file + 16, 51, 4); return refused(2);
     case 6: put(rows + 4 * j, (uint64_t)PICK(0, 20001), 4); return refused(31) + (j + 1) * 65536;
     case 7: put(rows + 4 * N + 4 * j, (uint64_t)PICK(20000001, -20000001), 4); return refused(32) + (j + 1) * 65536;
@@ -733,7 +776,7 @@ static uint64_t spoil_file(struct call *c, int fault)
         put(rows + 16 * N + 8 * (level * (N - 1) + face), 1000000000000001, 8);
         return refused(35) + (face + 1) * 65536;
     case 11:
-        put(c->file + 24 + 40 * N + 8 * (level * N + j), (uint64_t)INT64_C(-100000000001), 8);
+        put(c->file + 28 + 40 * N + 8 * (level * N + j), (uint64_t)INT64_C(-100000000001), 8);
         return refused(36) + (j + 1) * 65536;
     case 12: set_height(c, j + 1, LEAST - 1); return refused(4) + (j + 1) * 65536;
     case 13:
@@ -750,6 +793,17 @@ static uint64_t spoil_file(struct call *c, int fault)
     case 16: /* beside a dry cell too, which comes before it */
         spoil_file(c, 15), set_height(c, j + 1, LEAST);
         return refused(4) + (j + 1) * 65536;
+    case 17: to_edition_1(c); return refused(13);
+    case 18: /* in the last cell too */
+        put(c->file + c->file_len - 4, (uint64_t)PICK(-1, 10001), 4);
+        put(c->file + 28 + 64 * N + 4 * j, (uint64_t)PICK(-1, 10001, INT32_MIN, INT32_MAX), 4);
+        return refused(38) + (j + 1) * 65536;
+    case 19: /* beside what comes after it: a dry cell, a time step that is too long, a row that is not dominant */
+        spoil_file(c, 16);
+        return spoil_file(c, 18);
+    case 20: /* beside an acceleration, which comes before it */
+        spoil_file(c, 18);
+        return spoil_file(c, 11);
     default: return 0; /* none */
     }
 }
@@ -802,7 +856,7 @@ static void faults(enum which which)
 
 static bool due(enum which which, int number, int of_gauges)
 {
-    static const int of_file[] = {1, 2, 4, 5, 12, 13, 14, 26, 31, 32, 33, 34, 35, 36};
+    static const int of_file[] = {1, 2, 4, 5, 12, 13, 14, 26, 31, 32, 33, 34, 35, 36, 38};
     if (!of_gauges) {
         for (size_t i = 0; i < sizeof of_file / sizeof *of_file; i++)
             if (number == of_file[i])
