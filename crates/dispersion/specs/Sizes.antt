@@ -7,11 +7,11 @@ use mathlib.Core.Bool.{Bool, true, false}
 use mathlib.Core.List.{List}
 use lib.Dec.{lit≤}
 use lib.ListN.{length, getD-replicate}
-use lib.IntN.{ℤ, pos, natAbs, _+ℤ_, _*ℤ_}
+use lib.IntN.{ℤ, pos, natAbs, _+ℤ_, _-ℤ_, _*ℤ_, +ℤ-idr, zero-*ℤ}
 use Rattle.whole.specs.Abs.{abs-neg}
 use Rattle.whole.specs.Expr.{var, lit, add, sub, mul, abs≤}
 use Rattle.whole.specs.Row.{tab, length-tab, tab-at, tab-ext, zeros, length-zeros, padded, padded-at, length-padded, Within, within-more}
-use Rattle.rule.specs.Rounded.{rounded}
+use Rattle.rule.specs.Rounded.{nearest, rounded}
 use Rattle.rule.specs.Rows.{Row, cell, sizes, weighed}
 use Rattle.rule.specs.Ranges.{mostAcceleration, leastCells, mostCells, leastWidth, mostDepth, mostHeight, mostVelocity, mostDamping}
 use Rattle.rule.specs.Channel.{water, product}
@@ -129,6 +129,14 @@ pub drag-within : (n : ℕ) (u damping : Row) → Within mostVelocity n u → Wi
 drag-within n u damping velocities dampings j l =
     rounded-most (cell damping j *ℤ cell u j) 1000 200_000_000 (lit≤ tt)
     (le-trans (abs≤ (mul (var (cell damping j) mostDamping (dampings .at j l)) (var (cell u j) mostVelocity (velocities .at j l)))) (lit≤ tt))
+
+-- where there is none, F is what gravity and advection give
+pub none-taken : (n X : ℕ) (e u damping : Row) (j : ℕ) → cell damping j ≡ pos 0 → acceleration n X e u damping j ≡ undamped n X e u j
+unfolding acceleration rounded nearest
+none-taken n X e u damping j h =
+    ap (λ d. undamped n X e u j -ℤ rounded (d *ℤ cell u j) 1000) h
+    ∙ ap (λ z. undamped n X e u j -ℤ rounded z 1000) (zero-*ℤ (cell u j))
+    ∙ +ℤ-idr (undamped n X e u j)
 
 module _ (n X : ℕ) (e u damping : Row) (heights : Within mostHeight n e) (velocities : Within mostVelocity n u) (dampings : Within mostDamping n damping) (least : 4 ≤ n) where
   -- F is at most 89,630,000,000, and never leaves its range

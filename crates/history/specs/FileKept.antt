@@ -9,7 +9,7 @@ use lib.IntN.{_+ℤ_, +ℤ-idr, +ℤ-assoc}
 use lib.ListN.{length}
 use Rattle.rule.specs.declared.Answer.{Answer}
 use Rattle.rule.specs.Refusals.{numberOf}
-use Rattle.rule.specs.File.{countOf}
+use Rattle.rule.specs.File.{countOf, channelOf}
 use Rattle.rule.specs.Calls.{Called, read, makeFile}
 use Rattle.little.specs.Numbers.{AreBytes}
 use Rattle.answers.specs.Stages.{leavesBytes}
@@ -49,6 +49,11 @@ library-file-count-grows (then h l) = omega (arith, library-file-count-grows h, 
 pub library-file-wanted-stays : {s t : List ℕ} (h : FileHistory s t) → countOf t 5 ≡ countOf s 5
 library-file-wanted-stays none = refl
 library-file-wanted-stays (then h l) = left l .same ∙ library-file-wanted-stays h
+
+-- and so does the damping of every cell
+pub library-file-damping-stays : {s t : List ℕ} (h : FileHistory s t) → channelOf t .damping ≡ channelOf s .damping
+library-file-damping-stays none = refl
+library-file-damping-stays (then h l) = left l .damped ∙ library-file-damping-stays h
 
 -- the file of a complete channel stays as it is, byte for byte
 pub library-file-complete-stays : {s t : List ℕ} (h : FileHistory s t) → countOf s 4 ≡ countOf s 5 → t ≡ s

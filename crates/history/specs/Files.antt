@@ -31,25 +31,28 @@ use Rattle.water.specs.Counts.{count-grows, wanted-stays, complete-stays}
 use Rattle.water.specs.Again.{accepted-passes}
 use Rattle.water.specs.Starts.{make-passes}
 use Rattle.history.specs.History.{amount, one, still}
+use Rattle.history.specs.Basin.{is-like}
 use Rattle.history.specs.Answers.{step-amount, step-one, still-poured, run-for-taken}
 use Rattle.history.specs.FileRule as files
 use Rattle.history.specs.FileRule.{FileCall, run-for, onBytes, heights, pouredWith, acceptedWith, filePouredBy, fileAcceptedBy}
 
--- the counts and the heights of a channel, in its file
+-- the counts, the heights and the damping of a channel, in its file
 pub record In (s : List ℕ) (c : Channel) : Type 0 where
   pub heights : heights s ≡ sum (c .e)
   pub accepted : countOf s 4 ≡ c .accepted
   pub wanted : countOf s 5 ≡ c .wanted
+  pub damping : channelOf s .damping ≡ c .damping
 
 in-of : (s : List ℕ) (c : Channel) → channelOf s ≡ c → In s c
 unfolding heights channelOf
-in-of s c e = record { heights = ap (λ d. sum (d .e)) e; accepted = ap (λ d. d .accepted) e; wanted = ap (λ d. d .wanted) e }
+in-of s c e = record { heights = ap (λ d. sum (d .e)) e; accepted = ap (λ d. d .accepted) e; wanted = ap (λ d. d .wanted) e; damping = ap (λ d. d .damping) e }
 
 -- what a call leaves of the bytes s
 pub record Left (s left : List ℕ) (z : ℤ) (k : ℕ) : Type 0 where
   pub water : heights left ≡ heights s +ℤ z
   pub grown : countOf left 4 ≡ countOf s 4 + k
   pub same : countOf left 5 ≡ countOf s 5
+  pub damped : channelOf left .damping ≡ channelOf s .damping
   pub taken : numberOf (read s) ≡ 0 → numberOf (read left) ≡ 0
   pub stays : AreBytes s → countOf s 4 ≡ countOf s 5 → left ≡ s
 
@@ -69,6 +72,7 @@ module _ (f : Channel → Called Channel) (z : Answer → ℤ) (k : Answer → �
         water = sym (ap (λ t. heights s +ℤ t) (n .0) ∙ +ℤ-idr (heights s));
         grown = omega (arith, n .1);
         same = refl;
+        damped = refl;
         taken = λ y. y;
         stays = λ b y. refl;
       }
@@ -90,6 +94,7 @@ module _ (f : Channel → Called Channel) (z : Answer → ℤ) (k : Answer → �
             let y = ap (λ x. x .accepted) (m .is) in
             omega (arith, new .accepted, old .accepted, y, count-grows c (m .calls), m .counts);
         same = new .wanted ∙ ap (λ x. x .wanted) (m .is) ∙ wanted-stays c (m .calls) ∙ sym (old .wanted);
+        damped = new .damping ∙ sym (ap (λ x. x .damping) (is-like c d (m .calls) (m .is))) ∙ sym (old .damping);
         taken = λ y. number-of-done (read (fileOf d)) d (read-file d q);
         stays = λ b y. ap fileOf (m .is ∙ complete-stays c (sym (old .accepted) ∙ y ∙ old .wanted) (m .calls)) ∙ file-read fits given s c b e;
       }

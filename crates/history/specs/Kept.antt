@@ -1,7 +1,7 @@
 -- Water is kept by the library's own calls, and so are the counts. A history may be cut after any of its calls, and what comes
 -- before the cut is a history: what is said here of the channel at its end is said of every channel between. Assumes nothing.
 use Prim.Native.Nat.{_+_, _≤_}
-use mathlib.Core.Path.{_≡_, _∙_, ap}
+use mathlib.Core.Path.{_≡_, sym, _∙_, ap}
 use mathlib.Core.List.{[]}
 use native.Mathlib.Omega.{arith}
 use lib.Dec.{eqb}
@@ -21,6 +21,7 @@ use Rattle.history.specs.Filters as filters
 use Rattle.history.specs.Runs as runs
 use Rattle.history.specs.History.{Start, made, read, Link, step, filter, run, run-for, History, poured, accepted, answer, ruled, calls, rowsOf, atComplete}
 use Rattle.history.specs.Starts.{make-starts, read-starts}
+use Rattle.history.specs.Basin.{is-like}
 use Rattle.history.specs.Complete.{step-complete, filter-complete, run-complete, run-for-complete}
 use Rattle.history.specs.Told.{whole}
 
@@ -52,6 +53,10 @@ module _ {c d : Channel} (h : History c d) where
 
   pub library-wanted-stays : d .wanted ≡ c .wanted
   library-wanted-stays = ap (λ x. x .wanted) (whole h .is) ∙ wanted-stays c (calls h)
+
+  -- and so does the damping of every cell
+  pub library-damping-stays : d .damping ≡ c .damping
+  library-damping-stays = sym (ap (λ x. x .damping) (is-like c d (calls h) (whole h .is)))
 
   -- a complete channel stays as it is under every call
   pub library-complete-stays : c .accepted ≡ c .wanted → d ≡ c

@@ -10,9 +10,9 @@ pub mod Answers
 pub mod Starts
 pub mod Complete
 pub mod Told
+pub mod Basin
 pub mod Kept
 pub mod AnyCalls
-pub mod Basin
 pub mod Witness
 pub mod FileRule
 pub mod Files
