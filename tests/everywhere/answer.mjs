@@ -35,8 +35,9 @@ function string() {
 const done = (count = 0) => ({ number: 0, stage: 0, place: 0, count });
 
 const does = [
-    (n, file, [depths, heights, velocities]) => {
-        const made = pathpetal.make({ cells: n[0], widthMm: n[1], stepMs: n[2], wanted: n[3], depths, heights, velocities }, file);
+    (n, file, [depths, heights, velocities, dampings]) => {
+        const start = { cells: n[0], widthMm: n[1], stepMs: n[2], wanted: n[3], depths, heights, velocities, dampings };
+        const made = pathpetal.make(start, file);
         if (made !== file)
             throw new Error('make gave other bytes than it was lent');
         return done();
@@ -84,7 +85,7 @@ while (at < from.length) {
     const kind = number(1);
     number(1);
     const n = [number(8), number(8), number(8), number(8)];
-    const strings = [string(), string(), string(), string()], [file, ...rows] = strings;
+    const strings = [string(), string(), string(), string(), string()], [file, ...rows] = strings;
     const told = answer(kind, n, file.bytes, rows.map((row) => row.bytes));
     const left = strings[changed[kind]].bytes;
     const out = Buffer.alloc(13 + left.length);

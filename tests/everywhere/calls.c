@@ -1,8 +1,9 @@
 /* calls write CALLS: draws calls of pathpetal.h from one seed and writes them to the file CALLS. What each would
    answer is asked of the second program, so that accepted calls, each refusal at each stage, the first, middle and last
    places of those that have one, each k from 1 to 10, each count of accepted steps that the weights of a step hang on,
-   time steps at their bound and beyond it, and an exact half at each place that rounds, of both signs and parities, all
-   have their share. The calls of gauges come last.
+   time steps at their bound and beyond it, damping of every form and at fault beside every other fault, files of edition
+   1, files' first bytes, and an exact half at each place that rounds, of both signs and parities, all have their share.
+   The calls of gauges come last.
    calls table CALLS ANSWERS: prints how often each answer occurred; fails if one that is known to occur did not, or if
    a call touched a byte that is not its own.
    calls differ CALLS ANSWERS OTHERS..: prints the first calls that one of the OTHERS answers differently, and last 'N
@@ -14,11 +15,11 @@
 
 #include <inttypes.h>
 
-enum { REASONS = 38, STAGES = 11, EACH = 5000, MOST_DRAWN = 4000000 };
+enum { REASONS = 39, STAGES = 11, EACH = 5000, MOST_DRAWN = 4000000 };
 static const char *const names[DO_KINDS] = {"make", "step", "filter", "check", "run", "place", "feed", "read"};
 
-enum { V_HALVES, FLUX_HALVES, U_HALVES, MOVED_HALVES, FLOW_HALVES, FILTERED_HALVES, BY_LESS, THIN, BOUND, FAULTS, EDGE,
-       VIOLENT, ANY, DRAWN, WATCHED, ENDS, GAUGE_FAULTS, SCENES };
+enum { V_HALVES, FLUX_HALVES, U_HALVES, MOVED_HALVES, FLOW_HALVES, FILTERED_HALVES, DAMPED_HALVES, BY_LESS, THIN, BOUND,
+       EDITIONS, FAULTS, EDGE, VIOLENT, ANY, DRAWN, WATCHED, ENDS, GAUGE_FAULTS, SCENES };
 static const char *const scenes[SCENES] = {
     "every inner V of make is exactly a half",
     "dispersive parts are exactly halves",
@@ -26,9 +27,11 @@ static const char *const scenes[SCENES] = {
     "what moves in a step is exactly a half",
     "plain parts or accelerations are exactly halves",
     "what a filter pass rounds is exactly a half",
+    "what the damping takes is exactly a half",
     "out of its range by a half or less",
     "sides of the solve fall below the least normal float",
     "a time step at its bound or just beyond it",
+    "files of edition 1, and first bytes of files",
     "several faults at once, so that their order decides",
     "a flux just out of range",
     "fast or much poured, over long steps",
@@ -63,9 +66,38 @@ enum { ENOUGH = 20 };
 static long decided[TIES];
 static const char *const rounding[PLACES] = {
     "W predicted", "W corrected", "V's quotient predicted", "V's quotient corrected", "G of the filter",
-    "V of the filter", "plain part", "F", "dispersive part", "u", "V of make",
+    "V of the filter", "plain part", "F", "what the damping takes", "dispersive part", "u", "V of make",
 };
 static const char *const sides[4] = {"above zero, even", "above zero, odd", "below zero, even", "below zero, odd"};
+
+/* How many calls, up to ENOUGH, end otherwise when F and what the damping takes from it are rounded at once; and without
+   the damping. */
+static long decided_apart[DO_KINDS], decided_damped[DO_KINDS];
+
+/* The damping of the calls that did something: in no cell; in one; in all; 10,000 in all; 0 and 10,000; more or less from
+   cell to cell. */
+enum { NO_CELL, ONE_CELL, ALL_CELLS, ALL_MOST, BOTH_ENDS, SLOPING, SHAPES };
+static const char *const shapes[SHAPES] = {
+    "in no cell", "in one cell", "in all cells", "10,000 in all cells", "0 and 10,000", "sloping",
+};
+static long shaped[DO_KINDS][SHAPES];
+
+/* How often a damping out of its range stood beside another fault: of each number what was told before it, and what
+   would have been told next. */
+static long before_38[DO_KINDS][REASONS], next_to_38[DO_KINDS][REASONS];
+
+/* How often 38 was told of each number just out of its range, and of the furthest that 4 bytes hold. */
+enum { OUTSIDES = 4 };
+static const int64_t outsides[OUTSIDES] = {-1, 10001, INT32_MIN, INT32_MAX};
+static long outside[DO_KINDS][OUTSIDES];
+
+/* How often the file of a channel was refused for its edition, 1, and nothing else; and the first bytes of a file: 47 of
+   them with 12, 48 to 51 for their edition, for their cells, and with 12 where both are right. */
+enum { OF_EDITION_1, OF_47, EDITION_OF_48, CELLS_OF_48, LENGTH_OF_48, FORMS };
+static const char *const forms[FORMS] = {
+    "13 for edition 1 alone", "12 for 47 bytes", "13 for 48 to 51", "1 for their cells", "12 for their length",
+};
+static long formed[DO_KINDS][FORMS];
 
 /* The count of accepted steps that a step or a run starts from. One whose lowest byte alone is 0 or 1 is a later one
    too, and the last before the wanted is one of the others. How often it took a step, and was refused at a stage. */
@@ -157,7 +189,7 @@ static bool comes_to_time(unsigned number)
 static bool next_to_bound(const struct record *r, bool beyond)
 {
     bool make = r->kind == DO_MAKE;
-    const uint8_t *file = r->string[FILE_STRING].at, *depths = make ? r->string[FIRST_ROW].at : file + 48;
+    const uint8_t *file = r->string[FILE_STRING].at, *depths = make ? r->string[FIRST_ROW].at : file + 52;
     const uint64_t *n = r->number, N = make ? n[0] : pathpetal_cells(file);
     int64_t X = (int64_t)(make ? n[1] : pathpetal_width_mm(file));
     int64_t T = (int64_t)(make ? n[2] : pathpetal_step_ms(file)), h = 0;
@@ -184,6 +216,135 @@ static bool is_unweighed(const struct record *r, unsigned number, unsigned place
            level_told(r, number, place) > pathpetal_accepted(r->string[FILE_STRING].at);
 }
 
+static uint64_t by_second(struct record *c);
+
+/* The damping row of a call and its cells, if the lengths of the call allow to find it. */
+static const uint8_t *dampings_of(const struct record *r, size_t *N)
+{
+    const struct string *f = &r->string[FILE_STRING], *row = &r->string[FOURTH_ROW];
+    bool make = r->kind == DO_MAKE;
+    uint64_t cells = make ? r->number[0] : r->kind != DO_READ && f->len >= 48 ? pathpetal_cells(f->at) : 0;
+    *N = (size_t)cells;
+    if (cells < 8 || cells > CELLS || (make ? row->len != 4 * *N : f->len != pathpetal_length(*N)))
+        return NULL;
+    return make ? row->at : f->at + 28 + 64 * *N;
+}
+
+static bool damping_wrong(const struct record *r)
+{
+    size_t N;
+    const uint8_t *at = dampings_of(r, &N);
+    bool wrong = false;
+    for (size_t j = 0; at && j < N; j++)
+        wrong = wrong || pathpetal_word(at + 4 * j) > 10000;
+    return wrong;
+}
+
+/* The call without its damping, done by the second program. */
+static uint64_t undamped(const struct record *r, struct record *other)
+{
+    size_t N;
+    *other = *r;
+    uint8_t *at = (uint8_t *)dampings_of(other, &N);
+    memset(at, 0, 4 * N);
+    return by_second(other);
+}
+
+/* What a call that is refused for its damping would be refused for next. */
+static unsigned next_number(const struct record *r)
+{
+    static struct record other;
+    return pathpetal_number(undamped(r, &other));
+}
+
+static bool has_shape(const uint8_t *row, size_t N, int shape)
+{
+    size_t cells = 0, most = 0, up = 0, down = 0;
+    for (size_t j = 0; j < N; j++) {
+        int32_t here = pathpetal_signed(row + 4 * j), last = j > 0 ? pathpetal_signed(row + 4 * (j - 1)) : here;
+        cells += here != 0, most += here == 10000, up += here > last, down += here < last;
+    }
+    switch (shape) {
+    case NO_CELL: return cells == 0;
+    case ONE_CELL: return cells == 1;
+    case ALL_CELLS: return cells == N;
+    case ALL_MOST: return most == N;
+    case BOTH_ENDS: return most > 0 && cells < N;
+    default: return (up > 1 && !down) || (down > 1 && !up);
+    }
+}
+
+/* Whether the file is that of a channel in edition 1: with dampings of 0 and its offsets 4 larger it is one of edition
+   2. */
+static bool is_of_edition_1(const struct record *r)
+{
+    static uint8_t file[LONGEST];
+    const struct string *f = &r->string[FILE_STRING];
+    size_t N = f->len >= 48 ? pathpetal_cells(f->at) : 0;
+    if (N < 8 || N > CELLS || f->len != 24 + 64 * N || pathpetal_word(f->at) != 1)
+        return false;
+    uint32_t last = (uint32_t)(28 + 64 * N);
+    memset(file, 0, pathpetal_length(N));
+    memcpy(file, f->at, 48);
+    memcpy(file + 52, f->at + 48, f->len - 48);
+    file[0] = 2;
+    for (size_t i = 6; i <= 12; i++) {
+        uint32_t offset = i < 12 ? pathpetal_word(f->at + 4 * i) + 4 : last;
+        for (size_t k = 0; k < 4; k++)
+            file[4 * i + k] = (uint8_t)(offset >> 8 * k);
+    }
+    return by_second_check(file, pathpetal_length(N)) == 0;
+}
+
+/* What an answer is for by the form of the file alone; FORMS if it is for something else. */
+static int form_of(const struct record *r, unsigned number)
+{
+    const struct string *f = &r->string[FILE_STRING];
+    bool begun = f->len >= 48 && f->len < 52;
+    uint32_t cells = begun ? pathpetal_cells(f->at) : 0;
+    if (r->kind == DO_MAKE || r->kind == DO_READ)
+        return FORMS;
+    if (number == PATHPETAL_LENGTH && f->len == 47)
+        return OF_47;
+    if (number == PATHPETAL_EDITION)
+        return begun ? EDITION_OF_48 : is_of_edition_1(r) ? OF_EDITION_1 : FORMS;
+    if (number == PATHPETAL_SHAPE && begun && (cells < 8 || cells > CELLS))
+        return CELLS_OF_48;
+    return number == PATHPETAL_LENGTH && begun ? LENGTH_OF_48 : FORMS;
+}
+
+/* Which of the outsides the damping told is; OUTSIDES if it is another. */
+static int outside_of(const struct record *r, unsigned place)
+{
+    size_t N;
+    int32_t damping = pathpetal_signed(dampings_of(r, &N) + 4 * (place - 1));
+    int i = 0;
+    while (i < OUTSIDES && outsides[i] != damping)
+        i++;
+    return i;
+}
+
+/* Counts what an answer has to do with the damping and the form of the file. */
+static void count_damping(const struct record *r, uint64_t answer)
+{
+    unsigned number = pathpetal_number(answer);
+    size_t N;
+    const uint8_t *row = dampings_of(r, &N);
+    int form = form_of(r, number);
+    if (form < FORMS)
+        formed[r->kind][form]++;
+    if (number == PATHPETAL_BAD_DAMPING) {
+        int out_by = outside_of(r, pathpetal_place(answer));
+        next_to_38[r->kind][next_number(r)]++;
+        if (out_by < OUTSIDES)
+            outside[r->kind][out_by]++;
+    } else if (number && damping_wrong(r)) {
+        before_38[r->kind][number]++;
+    }
+    for (int shape = 0; shape < SHAPES && row && (number == 0 || number == PATHPETAL_MORE); shape++)
+        shaped[r->kind][shape] += has_shape(row, N, shape);
+}
+
 /* Counts an answer; 0 if it is none that a call can give. */
 static bool counted(const struct record *r, uint64_t answer)
 {
@@ -196,6 +357,8 @@ static bool counted(const struct record *r, uint64_t answer)
     if (r->kind >= DO_PLACE && (r->kind == DO_PLACE && number == 0 ? count < 1 || count > GAUGES : count != 0))
         return false;
     if (has_place(number) ? place < 1 || place > last_place(r, number) : place != 0)
+        return false;
+    if (number == PATHPETAL_BAD_DAMPING && !damping_wrong(r))
         return false;
     total[r->kind]++;
     answered[r->kind][number][stage]++;
@@ -217,6 +380,7 @@ static bool counted(const struct record *r, uint64_t answer)
     bool refused, stages = came_to_stages(r, answer, &refused);
     for (int start = 0; stages && start < STARTS; start++)
         started[r->kind][start][refused] += starts_from(r, start);
+    count_damping(r, answer);
     return true;
 }
 
@@ -224,7 +388,7 @@ static bool counted(const struct record *r, uint64_t answer)
 static bool due(unsigned kind, unsigned number, unsigned stage)
 {
     bool made = number == 1 || number == 2 || number == 4 || number == 5 || number == PATHPETAL_TIME_STEP ||
-                (number >= 31 && number <= 33);
+                (number >= 31 && number <= 33) || number == PATHPETAL_BAD_DAMPING;
     bool input = made || (number >= 12 && number <= 14) || (number >= 34 && number <= 36);
     switch (kind) {
     case DO_MAKE: return stage == 0 && (number == 0 || made || number == 7 || number == 9 || number == 15);
@@ -243,6 +407,77 @@ static bool due(unsigned kind, unsigned number, unsigned stage)
     if (kind == DO_RUN)
         return stage <= 2 && (number == 4 || number == 7 || number == 8);
     return number == 4 || (number >= 7 && number <= 9);
+}
+
+/* Whether 38 must have been told where that would have been next. 0: nothing else was at fault. */
+static bool due_next(unsigned kind, unsigned number)
+{
+    switch (number) {
+    case 0: case PATHPETAL_DEPTH: case PATHPETAL_TIME_STEP: case PATHPETAL_DOMINANCE: return true;
+    case PATHPETAL_BAD_POURED: return kind == DO_STEP;
+    case PATHPETAL_COMPLETE: return kind == DO_STEP || kind == DO_FILTER;
+    case PATHPETAL_BUFFER: return kind == DO_MAKE;
+    case PATHPETAL_MORE: return kind == DO_RUN;
+    case PATHPETAL_LENGTH: case PATHPETAL_OFFSETS: case PATHPETAL_OFF_CHANNEL: return kind >= DO_PLACE;
+    case PATHPETAL_NINTH_GAUGE: return kind == DO_PLACE;
+    case PATHPETAL_GAUGE_FULL: return kind == DO_FEED;
+    default: return false;
+    }
+}
+
+/* Whether that must have been told where 38 would have been next. Where cells or lengths of a file are wrong, no damping is
+   found; 1 is for a row beside it. */
+static bool due_before(unsigned kind, unsigned number)
+{
+    return number == PATHPETAL_COUNTS || (number >= PATHPETAL_BAD_DEPTH && number <= PATHPETAL_BAD_VELOCITY) ||
+           (number == PATHPETAL_SHAPE && (kind == DO_MAKE || kind == DO_STEP)) ||
+           (kind != DO_MAKE && (number == PATHPETAL_EDITION || number == PATHPETAL_OFFSETS ||
+                                (number >= PATHPETAL_BAD_REDUCED && number <= PATHPETAL_BAD_ACCELERATION)));
+}
+
+/* How much of what is known of damping and of files' forms did not occur. */
+static long missing_damping(bool say, unsigned kinds)
+{
+    long n = 0;
+    for (unsigned kind = 0; kind < kinds && kind != DO_READ; kind++) {
+        bool moves = kind <= DO_RUN && kind != DO_CHECK;
+        for (unsigned number = 0; number < REASONS; number++) {
+            if (due_next(kind, number) && next_to_38[kind][number] < 5) {
+                n++;
+                if (say)
+                    printf("%s seldom answered 38 and would have answered %u next\n", names[kind], number);
+            }
+            if (due_before(kind, number) && before_38[kind][number] < 5) {
+                n++;
+                if (say)
+                    printf("%s seldom answered %u before 38\n", names[kind], number);
+            }
+        }
+        for (int i = 0; i < OUTSIDES; i++)
+            if (!outside[kind][i]) {
+                n++;
+                if (say)
+                    printf("%s never answered 38 for a damping of %" PRId64 "\n", names[kind], outsides[i]);
+            }
+        for (int form = 0; form < FORMS && kind != DO_MAKE; form++)
+            if (formed[kind][form] < 10) {
+                n++;
+                if (say)
+                    printf("%s seldom answered %s\n", names[kind], forms[form]);
+            }
+        for (int shape = 0; shape < SHAPES && moves; shape++)
+            if (shaped[kind][shape] < 20) {
+                n++;
+                if (say)
+                    printf("%s seldom did something with damping %s\n", names[kind], shapes[shape]);
+            }
+        if (moves && (decided_apart[kind] < 5 || decided_damped[kind] < ENOUGH)) {
+            n++;
+            if (say)
+                printf("%s was seldom decided by its damping, or by two roundings of F\n", names[kind]);
+        }
+    }
+    return n;
 }
 
 /* How much of what is known to occur did not, in the calls of the first kinds. */
@@ -321,7 +556,7 @@ static long missing(bool say, unsigned kinds)
                 if (say)
                     printf("calls were seldom decided by a half of %s, %s\n", rounding[place], sides[side]);
             }
-    return n;
+    return n + missing_damping(say, kinds);
 }
 
 /* The call at hand, its file's bytes before it, and where the calls that are kept go. */
@@ -333,10 +568,11 @@ static uint64_t by_second(struct record *c)
 {
     const uint64_t *n = c->number;
     struct string *f = &c->string[FILE_STRING], *a = &c->string[FIRST_ROW], *b = &c->string[SECOND_ROW],
-                  *d = &c->string[THIRD_ROW];
+                  *d = &c->string[THIRD_ROW], *g = &c->string[FOURTH_ROW];
     switch (c->kind) {
     case DO_MAKE:
-        return by_second_make(n[0], n[1], n[2], n[3], a->at, a->len, b->at, b->len, d->at, d->len, f->at, f->len);
+        return by_second_make(n[0], n[1], n[2], n[3], a->at, a->len, b->at, b->len, d->at, d->len, g->at, g->len, f->at,
+                              f->len);
     case DO_STEP: return by_second_step(f->at, f->len, a->at, a->len);
     case DO_FILTER: return by_second_filter(f->at, f->len);
     case DO_CHECK: return by_second_check(f->at, f->len);
@@ -353,16 +589,27 @@ static uint64_t by_second(struct record *c)
     }
 }
 
-/* Counts the ties that decide a call. The string that a call may change is all that it leaves. */
+/* Counts the ties, the roundings apart and the damping that decide a call. The string that a call may change is all that
+   it leaves; without its damping, a file is compared up to that. */
 static void count_ties(const struct record *c)
 {
     static struct record one, other;
     const struct string *left = &one.string[changed_by(c->kind)], *otherwise = &other.string[changed_by(c->kind)];
     long here[TIES];
+    size_t N;
     one = *c;
     memset(ties, 0, sizeof ties);
+    apart = 0;
     uint64_t answer = by_second(&one);
     memcpy(here, ties, sizeof here);
+    if (apart && decided_apart[c->kind] < ENOUGH) {
+        other = *c;
+        at_once = 1;
+        decided_apart[c->kind] += by_second(&other) != answer || memcmp(left->at, otherwise->at, left->len);
+        at_once = 0;
+    }
+    if (pathpetal_number(answer) == 0 && dampings_of(c, &N) && decided_damped[c->kind] < ENOUGH)
+        decided_damped[c->kind] += undamped(c, &other) != answer || memcmp(left->at, otherwise->at, 28 + 64 * N);
     for (turned = 0; turned < TIES; turned++)
         if (here[turned] && decided[turned] < ENOUGH) {
             other = *c;
@@ -376,6 +623,16 @@ static bool share_left(const struct record *c, uint64_t answer)
     unsigned number = pathpetal_number(answer), stage = pathpetal_stage(answer);
     long share = number == 0 || number == PATHPETAL_MORE ? 2600 : c->kind == DO_READ ? 900 : stage == 0 ? 300 : 80;
     bool refused, stages = came_to_stages(c, answer, &refused);
+    int form = form_of(c, number);
+    if (form < FORMS && formed[c->kind][form] < 40)
+        return true;
+    if (number == PATHPETAL_BAD_DAMPING && damping_wrong(c)) {
+        int out_by = outside_of(c, pathpetal_place(answer));
+        if (next_to_38[c->kind][next_number(c)] < 20 || (out_by < OUTSIDES && outside[c->kind][out_by] < 20))
+            return true;
+    } else if (number && before_38[c->kind][number] < 20 && damping_wrong(c)) {
+        return true;
+    }
     if (is_of_gauges(c, number) && of_gauges[c->kind][number == PATHPETAL_OFFSETS] < share)
         return true;
     if (c->scene <= FAULTS && shown[c->scene][c->kind] < 400)
@@ -428,20 +685,22 @@ static void clear(void)
         r.string[i].len = 0;
 }
 
-/* Depths, heights and velocities, and room for the file with anything in it. */
+/* Depths, heights, velocities and dampings, and room for the file with anything in it. */
 static void as_make(const struct call *c)
 {
     clear();
     const uint64_t counts[NUMBERS] = {c->N, c->X, c->T, c->wanted};
     memcpy(r.number, counts, sizeof counts);
-    for (int i = 0; i < 3; i++) {
-        put_row(&r.string[FIRST_ROW + i], c->row[ROW_h + i], c->len[ROW_h + i], 4);
+    for (int i = 0; i < 4; i++) {
+        int row = i < 3 ? ROW_h + i : ROW_damping;
+        put_row(&r.string[FIRST_ROW + i], c->row[row], c->len[row], 4);
         if (one_in(300))
             r.string[FIRST_ROW + i].len ^= (size_t)between(1, 3);
     }
     r.string[FILE_STRING].len = c->N <= CELLS ? pathpetal_length((size_t)c->N) : 600;
     if (one_in(30))
-        r.string[FILE_STRING].len = (size_t)(one_in(2) ? (int64_t)r.string[FILE_STRING].len + PICK(1, -1) : between(0, 17000));
+        r.string[FILE_STRING].len =
+            one_in(2) ? r.string[FILE_STRING].len + (size_t)PICK(1, -1, 4, -4) : (size_t)between(0, 18000);
     for (size_t i = 0; i < r.string[FILE_STRING].len; i++)
         r.string[FILE_STRING].at[i] = (uint8_t)draw();
 }
@@ -451,38 +710,52 @@ static void as_file(const struct call *c)
 {
     struct string *f = &r.string[FILE_STRING];
     uint64_t N = c->N;
-    const int64_t head[12] = {1, (int64_t)N, (int64_t)c->X, (int64_t)c->T, (int64_t)c->accepted, (int64_t)c->wanted, 48,
-                              48 + 4 * (int64_t)N, 48 + 8 * (int64_t)N, 48 + 12 * (int64_t)N, 48 + 16 * (int64_t)N,
-                              24 + 40 * (int64_t)N};
+    const int64_t head[13] = {2, (int64_t)N, (int64_t)c->X, (int64_t)c->T, (int64_t)c->accepted, (int64_t)c->wanted, 52,
+                              52 + 4 * (int64_t)N, 52 + 8 * (int64_t)N, 52 + 12 * (int64_t)N, 52 + 16 * (int64_t)N,
+                              28 + 40 * (int64_t)N, 28 + 64 * (int64_t)N};
     clear();
-    put_row(f, head, 12, 4);
+    put_row(f, head, 13, 4);
     for (int i = ROW_h; i <= ROW_V; i++)
         put_row(f, c->row[i], c->len[i], 4);
     put_row(f, c->row[ROW_Q], c->len[ROW_Q], 8);
     put_row(f, c->row[ROW_F], c->len[ROW_F], 8);
+    put_row(f, c->row[ROW_damping], c->len[ROW_damping], 4);
+}
+
+/* The file at hand in edition 1: without its last offset, the others 4 less, and without dampings. */
+static void to_edition_1(void)
+{
+    struct string *f = &r.string[FILE_STRING];
+    size_t N = pathpetal_cells(f->at);
+    for (size_t i = 6; i < 12; i++)
+        put_value(f->at + 4 * i, (int64_t)pathpetal_word(f->at + 4 * i) - 4, 4);
+    put_value(f->at, 1, 4);
+    memmove(f->at + 48, f->at + 52, 64 * N - 24);
+    f->len = 24 + 64 * N;
 }
 
 /* One count, offset, length or value of the file at hand at its bound or beyond it. */
 static void damage(void)
 {
-    static const int64_t bounds[] = {20000, 20000000, 20000000, 2000000000, 1000000000000000, 100000000000};
-    static const int64_t counts[] = {0, 1, 2, 7, 8, 9, 10, 11, 48, 99, 100, 101, 255, 256, 257, 4999, 5000, 5001, 999999,
-                                     1000000, 1000001, INT32_MAX, UINT32_MAX};
+    static const int64_t bounds[] = {20000, 20000000, 20000000, 2000000000, 1000000000000000, 100000000000, 10000};
+    static const int64_t counts[] = {0, 1, 2, 7, 8, 9, 10, 11, 48, 52, 99, 100, 101, 255, 256, 257, 4999, 5000, 5001,
+                                     999999, 1000000, 1000001, INT32_MAX, UINT32_MAX};
     struct string *f = &r.string[FILE_STRING];
     size_t N = f->len >= 48 ? pathpetal_cells(f->at) : 0;
     bool whole = N >= 8 && N <= CELLS && f->len == pathpetal_length(N);
     int64_t count = counts[draw() % (sizeof counts / sizeof *counts)];
     switch (draw() % (whole ? 10 : 4)) {
     case 0: f->len = f->len && one_in(2) ? f->len + (size_t)PICK(1, -1) : (size_t)between(0, (int64_t)f->len + 600); break;
-    case 1: f->len = (size_t)PICK(0, 1, 4, 47, 48, 49, 535, 536, 537, 16407, 16408, 16409); break;
+    case 1: f->len = (size_t)PICK(0, 1, 4, 47, 48, 49, 51, 52, 53, 536, 571, 572, 573, 17435, 17436, 17437); break;
     case 2: case 3: case 4:
         if (f->len >= 48) {
-            size_t at = 4 * (size_t)(draw() % 12);
+            size_t at = 4 * (size_t)(draw() % 13);
             put_value(f->at + at, one_in(2) ? count : (int64_t)pathpetal_word(f->at + at) + PICK(1, -1, 4, -4), 4);
         }
         break;
     default: {
-        size_t row = (size_t)(draw() % 6), len = row == 4 ? 3 * (N - 1) : row == 5 ? 3 * N : N, bytes = row < 4 ? 4 : 8;
+        size_t row = (size_t)(draw() % 7), len = row == 4 ? 3 * (N - 1) : row == 5 ? 3 * N : N;
+        size_t bytes = row == 4 || row == 5 ? 8 : 4;
         size_t at = pathpetal_word(f->at + 24 + 4 * row) + bytes * (size_t)(draw() % len);
         int64_t value = one_in(6) ? PICK(INT64_MIN, INT64_MAX, INT32_MIN, INT32_MAX, 0, 1, -1) : about(bounds[row]);
         if (at + bytes <= f->len)
@@ -583,16 +856,17 @@ static void thin(struct call *c)
     for (size_t j = 0; j < c->N; j++)
         c->row[ROW_h][j] = 1 + (one_in(9) ? 1 : 0);
     c->row[ROW_V][0] = between(-20000000, 20000000);
+    any_damping(c);
 }
 
 /* A value that is out of its range, or would be in another row: in the first, the last or any place of any level. */
 static void wrong_value(struct call *c)
 {
-    int row = (int)PICK(ROW_h, ROW_e, ROW_u, ROW_V, ROW_Q, ROW_F);
+    int row = (int)PICK(ROW_h, ROW_e, ROW_u, ROW_V, ROW_Q, ROW_F, ROW_damping, ROW_damping);
     int64_t sign = PICK(1, -1), size = PICK(20001, 20000001, 2000000001, 1000000000000001);
-    size_t levels = row < ROW_Q ? 1 : 3, len = c->len[row] / levels, any = (size_t)(draw() % len);
+    size_t levels = row == ROW_Q || row == ROW_F ? 3 : 1, len = c->len[row] / levels, any = (size_t)(draw() % len);
     size_t at = (size_t)PICK(0, (int64_t)len - 1, (int64_t)any), level = (size_t)(draw() % levels);
-    c->row[row][level * len + at] = sign * size;
+    c->row[row][level * len + at] = row == ROW_damping ? pick(outsides, OUTSIDES) : sign * size;
 }
 
 /* Fluxes or accelerations out of their range in two levels or three, each at any place. */
@@ -614,6 +888,7 @@ static void faulty(struct call *c)
     lengths(c, N);
     memset(c->row, 0, sizeof c->row);
     c->X = 500, c->T = (uint64_t)between(1, 20), c->wanted = 9, c->accepted = open_start(9);
+    any_damping(c);
     bool steep = one_in(4); /* in one cell, far less deep than those beside it */
     for (size_t i = 0; i < N; i++)
         c->row[ROW_h][i] = steep ? 3000 : 1000, c->row[ROW_e][i] = between(-500, 500);
@@ -645,16 +920,16 @@ static void faults_around(void)
     struct string *f = &r.string[FILE_STRING];
     if (one_in(5)) {
         int64_t offset = between(0, 1000);
-        put_value(f->at + 24 + 4 * (size_t)between(0, 5), offset, 4);
+        put_value(f->at + 24 + 4 * (size_t)between(0, 6), offset, 4);
     }
     if (one_in(5))
-        f->len += (size_t)PICK(1, 64, -1, -64);
+        f->len += (size_t)PICK(1, 4, 68, -1, -4, -68);
     if (one_in(12))
         put_value(f->at + 4, PICK(0, 7, 257, UINT32_MAX), 4);
     if (one_in(12))
-        put_value(f->at, PICK(0, 2, 257), 4);
+        put_value(f->at, PICK(0, 1, 3, 258), 4);
     if (one_in(20))
-        f->len = (size_t)between(0, 48);
+        f->len = (size_t)between(0, 52);
 }
 
 /* Calls with several faults: of the channel, of the file around it, of the room for it. */
@@ -671,7 +946,7 @@ static void with_faults(struct call *c)
             c->row[ROW_u][0] = c->row[ROW_u][3] = PICK(1, -1) * 20000000, c->X = 10, c->T = 1;
         as_make(c);
         if (one_in(2))
-            f->len = (f->len + (size_t)PICK(1, 64, 128, 600)) % 17000;
+            f->len = (f->len + (size_t)PICK(1, 4, 68, 136, 600)) % 18000;
         offer(DO_MAKE);
         return;
     }
@@ -686,10 +961,47 @@ static void with_faults(struct call *c)
     offer(kind);
 }
 
+/* A file of edition 1, right but for that or with a fault of its values; or the first bytes of a file, of any edition and
+   number of cells. */
+static void early_form(struct call *c)
+{
+    struct string *f = &r.string[FILE_STRING];
+    if (one_in(2)) {
+        scene(c);
+        for (int i = ROW_V; i <= ROW_F; i++)
+            memset(c->row[i], 0, c->len[i] * sizeof(int64_t));
+        if (one_in(4))
+            wrong_value(c);
+    } else {
+        faulty(c);
+    }
+    as_file(c);
+    if (one_in(3)) {
+        to_edition_1();
+        return;
+    }
+    if (one_in(3))
+        put_value(f->at, PICK(0, 1, 1, 3), 4);
+    if (one_in(3))
+        put_value(f->at + 4, PICK(0, 7, 257, UINT32_MAX), 4);
+    f->len = (size_t)between(46, 53);
+}
+
+static void with_early_form(struct call *c)
+{
+    unsigned kind = (unsigned)PICK(DO_STEP, DO_FILTER, DO_CHECK, DO_RUN);
+    early_form(c);
+    r.scene = EDITIONS;
+    if (kind == DO_STEP)
+        pour(one_in(2) ? c->row[ROW_s] : NULL);
+    r.number[0] = kind == DO_RUN ? most() : 0;
+    offer(kind);
+}
+
 static void one_scene(struct call *c)
 {
     unsigned kind;
-    switch (draw() % 28) {
+    switch (draw() % 30) {
     case 18: with_faults(c); break;
     case 19:
         if (moved_halves(c))
@@ -706,6 +1018,8 @@ static void one_scene(struct call *c)
             from_file(c, EDGE);
         }
         break;
+    case 28: damped_halves(c); from_make(c, DAMPED_HALVES); break;
+    case 29: if (one_in(4)) with_early_form(c); break;
     case 23: just_too_fast(c); once(c, BY_LESS, DO_STEP); break;
     case 24: just_too_large(c); from_make(c, BY_LESS); break;
     case 25: just_too_dispersive(c); from_make(c, BY_LESS); break;
@@ -770,6 +1084,7 @@ static void deep_channel(struct call *c)
     c->X = 5000, c->T = (uint64_t)between(1, 100), c->wanted = 9, c->accepted = (uint64_t)between(0, 9);
     for (size_t j = 0; j < N; j++)
         c->row[ROW_h][j] = 20000;
+    any_damping(c);
 }
 
 static void any_heights(struct call *c)
@@ -862,7 +1177,7 @@ static void gauge_scene(struct call *c)
 {
     static struct string gauges;
     unsigned kind = (unsigned)PICK(DO_PLACE, DO_FEED, DO_READ);
-    switch (draw() % 5) {
+    switch (draw() % 6) {
     case 0:
         deep_channel(c);
         memset(gauges.at, 0, gauges.len = PATHPETAL_GAUGES_LENGTH);
@@ -888,6 +1203,12 @@ static void gauge_scene(struct call *c)
         at_the_bound(c);
         as_file(c);
         r.scene = BOUND;
+        any_gauges(&gauges, c);
+        offer_gauges(c, &gauges, (unsigned)PICK(DO_PLACE, DO_FEED));
+        break;
+    case 3:
+        early_form(c);
+        r.scene = EDITIONS;
         any_gauges(&gauges, c);
         offer_gauges(c, &gauges, (unsigned)PICK(DO_PLACE, DO_FEED));
         break;
@@ -926,6 +1247,41 @@ static int write_calls(const char *to)
     }
     printf("%ld calls drawn\n", drawn);
     return missing(true, DO_KINDS) != 0;
+}
+
+static void print_damping(void)
+{
+    printf("calls, up to %d, that two roundings of F decide, and that the damping does:", ENOUGH);
+    for (unsigned kind = 0; kind <= DO_RUN; kind++)
+        if (kind != DO_CHECK)
+            printf(" %s %ld %ld", names[kind], decided_apart[kind], decided_damped[kind]);
+    printf("\n");
+    for (int shape = 0; shape < SHAPES; shape++) {
+        printf("damping %s:", shapes[shape]);
+        for (unsigned kind = 0; kind < DO_READ; kind++)
+            printf(" %s %ld", names[kind], shaped[kind][shape]);
+        printf("\n");
+    }
+    for (unsigned kind = 0; kind < DO_READ; kind++) {
+        printf("%s told 38 of -1, 10,001 and the furthest:", names[kind]);
+        for (int i = 0; i < OUTSIDES; i++)
+            printf(" %ld", outside[kind][i]);
+        printf("; before");
+        for (unsigned number = 0; number < REASONS; number++)
+            if (next_to_38[kind][number])
+                printf(" %u: %ld", number, next_to_38[kind][number]);
+        printf("; after");
+        for (unsigned number = 0; number < REASONS; number++)
+            if (before_38[kind][number])
+                printf(" %u: %ld", number, before_38[kind][number]);
+        printf("\n");
+    }
+    for (int form = 0; form < FORMS; form++) {
+        printf("%s:", forms[form]);
+        for (unsigned kind = DO_STEP; kind < DO_READ; kind++)
+            printf(" %s %ld", names[kind], formed[kind][form]);
+        printf("\n");
+    }
 }
 
 static int table(const char *calls, const char *answers)
@@ -999,6 +1355,7 @@ static int table(const char *calls, const char *answers)
             printf(" %ld", decided[tie_of(place, IS_HALF, side / 2, side % 2)]);
         printf("\n");
     }
+    print_damping();
     for (unsigned i = 0; i < SCENES; i++) {
         printf("%s:", scenes[i]);
         for (unsigned kind = 0; kind < DO_KINDS; kind++)

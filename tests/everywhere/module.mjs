@@ -26,6 +26,7 @@ const still = (cells, value) => row(Array(cells).fill(value));
 const start = (cells = 8) => ({
     cells, widthMm: 500, stepMs: 20, wanted: 5,
     depths: still(cells, 1000), heights: row(Array.from({ length: cells }, (_, j) => (j === 2 ? 9000 : 0))), velocities: still(cells, 0),
+    dampings: still(cells, 0),
 });
 const refused = (number, stage, place = 0) => (error) =>
     error instanceof Refusal && error instanceof Error && error.name === 'Refusal' && error.number === number && error.stage === stage &&
@@ -44,7 +45,7 @@ await test('the words are those of pathpetal.h', () => {
     for (const [, number, comment] of list.matchAll(/= (\d+),?\s*\/\*(.*?)\*\//gs))
         words[number] = comment.replace(/\s+/g, ' ').trim();
     assert.deepEqual({ ...reasons }, words);
-    assert.deepEqual(Object.keys(reasons).map(Number), [0, 1, 2, 4, 5, 6, 7, 8, 9, 10, 11, 12, 13, 14, 15, 16, 20, 21, 26, 30, 31, 32, 33, 34, 35, 36, 37]);
+    assert.deepEqual(Object.keys(reasons).map(Number), [0, 1, 2, 4, 5, 6, 7, 8, 9, 10, 11, 12, 13, 14, 15, 16, 20, 21, 26, 30, 31, 32, 33, 34, 35, 36, 37, 38]);
     assert.ok(Object.isFrozen(reasons));
 });
 
@@ -63,7 +64,7 @@ await test('the parts of an answer come back, and a message names the cell or th
     });
     const packed = (number, stage, place, count) => BigInt(count) * 33554432n + BigInt(place * 65536 + number * 256 + stage);
     const file = new Uint8Array(0);
-    for (const number of [0, 4, 5, 16, 31, 35, 37])
+    for (const number of [0, 4, 5, 16, 31, 35, 37, 38])
         for (const stage of [0, 1, 10])
             for (const place of [0, 1, 255, 256])
                 for (const count of [0, 1, 999_999, 1_000_000]) {
@@ -75,9 +76,10 @@ await test('the parts of an answer come back, and a message names the cell or th
         [31, 0, 40, 'refused 31 in cell 40: a depth is not 1 to 20,000 mm'],
         [35, 0, 7, 'refused 35 at face 7: a flux is not within 10^15 um2/s'],
         [37, 0, 256, 'refused 37 in cell 256: a poured amount is not within 1,000,000 um'],
+        [38, 0, 8, 'refused 38 in cell 8: a damping is not 0 to 10,000 thousandths per second'],
         [4, 2, 3, 'refused 4 in cell 3 at correction 2: a cell has less than 1 mm of water: it fell dry, or nearly so'],
         [7, 10, 0, 'refused 7 at correction 10: the water became faster than 20 m/s'],
-        [13, 0, 0, 'refused 13: not a channel file of edition 1'],
+        [13, 0, 0, 'refused 13: not a channel file of edition 2'],
         [20, 0, 0, 'refused 20: eight gauges are placed already'],
         [21, 0, 0, "refused 21: a gauge's cell is not in the channel"],
         [30, 0, 0, 'refused 30: a gauge holds 1,000,000 heights already'],
@@ -133,6 +135,7 @@ await test('make, read, step, run and filter', () => {
     assert.deepEqual({ ...pathpetal.read(file) }, {
         cells: 8, widthMm: 500, stepMs: 20, accepted: 0, wanted: 5, complete: false,
         depths: Int32Array.from(Array(8).fill(1000)), heights: Int32Array.of(0, 0, 9000, 0, 0, 0, 0, 0), velocities: new Int32Array(8),
+        dampings: new Int32Array(8),
     });
     assert.equal(pathpetal.step(file, still(8, 0)), 2);
     assert.equal(pathpetal.read(file).accepted, 1);
@@ -149,6 +152,7 @@ await test('the first three steps, one by one and in a run', () => {
     const slope = {
         cells: 16, widthMm: 500, stepMs: 50, wanted: 3,
         depths: still(16, 1000), heights: row(Array.from({ length: 16 }, (_, j) => 16000 - 1000 * j)), velocities: still(16, 0),
+        dampings: still(16, 0),
     };
     const file = pathpetal.make(slope), ran = pathpetal.make(slope);
     for (const first of [15971, 15884, 15742]) {
@@ -169,20 +173,22 @@ await test('a half goes to the even number: a filter pass of 128 in cell 8', () 
     }
 });
 
+// bytes with one number changed, and a start with one cell of a row changed
+const changed = (bytes, at, value, big = false) => {
+    const view = new DataView(bytes.buffer, bytes.byteOffset);
+    big ? view.setBigInt64(at, BigInt(value), true) : view.setInt32(at, value, true);
+    return bytes;
+};
+const with_row = (name, cell, value) => ({ ...start(), [name]: changed(start()[name].slice(), 4 * (cell - 1), value) });
+
 await test('what is refused for a value names its cell or face', () => {
-    const changed = (bytes, at, value, big = false) => {
-        const view = new DataView(bytes.buffer, bytes.byteOffset);
-        big ? view.setBigInt64(at, BigInt(value), true) : view.setInt32(at, value, true);
-        return bytes;
-    };
-    const with_row = (name, cell, value) => ({ ...start(), [name]: changed(start()[name].slice(), 4 * (cell - 1), value) });
     assert.throws(() => pathpetal.make(with_row('depths', 6, 0)), refused(31, 0, 6));
     assert.throws(() => pathpetal.make(with_row('heights', 8, 20_000_001)), refused(32, 0, 8));
     assert.throws(() => pathpetal.make(with_row('velocities', 1, -20_000_001)), refused(33, 0, 1));
     assert.throws(() => pathpetal.make(with_row('heights', 5, -999_001)), refused(4, 0, 5));
     assert.throws(() => pathpetal.make({ ...with_row('depths', 6, 0), heights: still(8, 20_000_001) }), refused(31, 0, 6));
     assert.throws(() => pathpetal.step(pathpetal.make(start()), row([0, 0, 0, 0, 0, 0, 0, -1_000_001])), refused(37, 0, 8));
-    const flux = 48 + 16 * 8, acceleration = 24 + 40 * 8;
+    const flux = 52 + 16 * 8, acceleration = 28 + 40 * 8;
     for (const [at, value, number, place] of [[flux + 8 * 6, 10n ** 15n + 1n, 35, 7], [flux + 8 * 8, -(10n ** 15n) - 1n, 35, 2], [acceleration + 8 * 23, 10n ** 11n + 1n, 36, 8]]) {
         const file = changed(pathpetal.make(start()), at, value, true), before = file.slice();
         for (const call of [() => pathpetal.check(file), () => pathpetal.read(file), () => pathpetal.filter(file)])
@@ -197,6 +203,82 @@ await test('what is refused for a value names its cell or face', () => {
             changed(dry, flux + 8 * (7 * level + face - 1), 10 ** 9, true);
     assert.throws(() => pathpetal.step(dry, still(8, 0)), refused(4, 0, 3));
     assert.deepEqual(pathpetal.run(dry), { complete: false, number: 4, stage: 0, place: 3, count: 0, words: reasons[4] });
+});
+
+// the newest accelerations of a file of 8 cells
+const accelerations = (file) => Array.from({ length: 8 }, (_, j) => Number(new DataView(file.buffer, file.byteOffset).getBigInt64(28 + 40 * 8 + 8 * j, true)));
+
+await test('what the damping takes from F is rounded by itself, a half to the even number', () => {
+    const slope = { ...start(), widthMm: 1000, heights: row([12, 24, 36, 48, 60, 72, 84, 96]) };
+    for (const [velocity, damping, taken] of [[1, 0, 0], [1, 500, 0], [3, 500, 2], [-1, 500, 0], [-3, 500, -2], [1, 501, 1], [1, 10_000, 10],
+        [20_000_000, 10_000, 200_000_000], [-20_000_000, 10_000, -200_000_000]]) {
+        const file = pathpetal.make({ ...slope, velocities: still(8, velocity), dampings: still(8, damping) });
+        assert.deepEqual(accelerations(file).slice(2, 6), Array(4).fill(-118 - taken));
+    }
+    const alone = { ...start(), widthMm: 1000, heights: row([0, 0, 1, 0, 0, 0, 0, 0]), velocities: row([0, 0, 0, 3, 0, 0, 0, 0]) };
+    assert.equal(accelerations(pathpetal.make({ ...alone, dampings: still(8, 150) }))[3], 7); // 6.54 and 0.45
+});
+
+await test('damping slows the water down, and no call changes it', () => {
+    const dampings = row([0, 0, 0, 0, 0, 500, 2000, 10_000]), bare = pathpetal.make({ ...start(), wanted: 500 });
+    const reeds = pathpetal.make({ ...start(), wanted: 500, dampings });
+    for (const file of [bare, reeds]) {
+        pathpetal.step(file, still(8, 0));
+        pathpetal.filter(file);
+        assert.equal(pathpetal.run(file).complete, true);
+        assert.equal(pathpetal.read(file).heights.reduce((sum, um) => sum + um), 9000);
+    }
+    assert.deepEqual([...pathpetal.read(bare).dampings], Array(8).fill(0));
+    assert.deepEqual([...pathpetal.read(reeds).dampings], [0, 0, 0, 0, 0, 500, 2000, 10_000]);
+    const fastest = (file) => Math.max(...pathpetal.read(file).velocities.map(Math.abs));
+    assert.ok(fastest(reeds) < fastest(bare) / 2);
+});
+
+await test('a damping out of its range is refused by every call that takes a channel, with its lowest cell', () => {
+    const gauges = new Uint8Array(GAUGES_LENGTH), end = 28 + 64 * 8;
+    for (const damping of [0, 10_000])
+        pathpetal.check(pathpetal.make(with_row('dampings', 5, damping)));
+    for (const damping of [-1, 10_001, -(2 ** 31), 2 ** 31 - 1])
+        for (const cell of [1, 5, 8]) {
+            assert.throws(() => pathpetal.make(with_row('dampings', cell, damping)), refused(38, 0, cell));
+            assert.throws(() => pathpetal.make({ ...with_row('dampings', cell, damping), heights: still(8, -999_001) }), refused(38, 0, cell)); // before 4
+            assert.throws(() => pathpetal.make({ ...with_row('velocities', 7, 20_000_001), dampings: still(8, damping) }), refused(33, 0, 7));
+            const file = changed(changed(pathpetal.make(start()), end + 4 * 7, -1), end + 4 * (cell - 1), damping), before = file.slice();
+            for (const call of [() => pathpetal.check(file), () => pathpetal.read(file), () => pathpetal.step(file, still(8, 1_000_001)), () => pathpetal.filter(file),
+                () => pathpetal.placeGauge(file, gauges, 1), () => pathpetal.feedGauges(file, gauges)])
+                assert.throws(call, refused(38, 0, cell));
+            assert.deepEqual(pathpetal.run(file), { complete: false, number: 38, stage: 0, place: cell, count: 0, words: reasons[38] });
+            assert.deepEqual(file, before);
+        }
+    assert.deepEqual(gauges, new Uint8Array(GAUGES_LENGTH));
+});
+
+await test('the file is of edition 2: its length, its edition and its first bytes', () => {
+    assert.deepEqual([8, 9, 256].map(fileLength), [572, 640, 17_436]);
+    const file = pathpetal.make(start()), every = (bytes) =>
+        [() => pathpetal.check(bytes), () => pathpetal.step(bytes, still(8, 0)), () => pathpetal.filter(bytes), () => pathpetal.feedGauges(bytes, new Uint8Array(GAUGES_LENGTH))];
+    assert.deepEqual([...new Uint32Array(file.slice(0, 52).buffer)], [2, 8, 500, 20, 0, 5, 52, 84, 116, 148, 180, 348, 540]);
+    const early = Uint8Array.of(...file.subarray(0, 48), ...file.subarray(52, 540)); // edition 1: no last offset, no dampings
+    for (let i = 6; i < 12; i++)
+        changed(early, 4 * i, [48, 80, 112, 144, 176, 344][i - 6]);
+    early[0] = 1;
+    assert.equal(early.length, 536);
+    for (const [bytes, number] of [
+        [early, 13], [changed(early.slice(), 0, 2), 12], [changed(file.slice(), 0, 1), 13], [changed(file.slice(), 48, 544), 14], [changed(file.slice(), 44, 344), 14],
+        [file.slice(0, 571), 12], [Uint8Array.of(...file, 0), 12], [file.slice(0, 47), 12], [file.slice(0, 50), 12], [changed(file.slice(0, 50), 4, 7), 1],
+        [changed(file.slice(0, 47), 4, 7), 12], [changed(file.slice(0, 50), 0, 1), 13],
+    ])
+        for (const call of every(bytes))
+            assert.throws(call, refused(number, 0));
+});
+
+await test('the rows of the longest channel come to the library whole, each in its own place', () => {
+    const ramp = (from) => row(Array.from({ length: 256 }, (_, j) => from + j));
+    const rows = { depths: ramp(1000), heights: ramp(-500), velocities: ramp(200), dampings: ramp(9744) };
+    const file = pathpetal.make({ ...start(256), widthMm: 5000, ...rows }), { depths, heights, velocities, dampings } = pathpetal.read(file);
+    for (const [told, given] of [[depths, rows.depths], [heights, rows.heights], [velocities, rows.velocities], [dampings, rows.dampings]])
+        assert.deepEqual(new Uint8Array(told.buffer), given);
+    assert.throws(() => pathpetal.make({ ...start(256), widthMm: 5000, ...rows, dampings: ramp(9746) }), refused(38, 0, 256));
 });
 
 await test('a time step that is too long for the deepest cell is refused by every call that takes a channel', () => {
@@ -223,7 +305,7 @@ await test('a time step that is too long for the deepest cell is refused by ever
 });
 
 // a file of start() whose cell has a height, and gauges fed one height after another at a cell
-const height = (file, cell, um) => new DataView(file.buffer, file.byteOffset).setInt32(48 + 4 * 8 + 4 * (cell - 1), um, true);
+const height = (file, cell, um) => new DataView(file.buffer, file.byteOffset).setInt32(52 + 4 * 8 + 4 * (cell - 1), um, true);
 const feed = (file, gauges, cell, heights) => {
     for (const um of heights) {
         height(file, cell, um);
@@ -333,7 +415,9 @@ await test('strings far longer than any that a call takes', () => {
     assert.throws(() => pathpetal.check(long), refused(12, 0));
     assert.throws(() => pathpetal.step(long, still(256, 0)), refused(12, 0));
     assert.throws(() => pathpetal.step(long.slice(0, fileLength(256)), long), refused(1, 0));
-    assert.throws(() => pathpetal.make({ ...start(256), depths: long }), refused(1, 0));
+    for (const name of ['depths', 'heights', 'velocities', 'dampings'])
+        for (const wrong of [long, long.subarray(0, 1025), long.subarray(0, 1023), new Uint8Array(0)])
+            assert.throws(() => pathpetal.make({ ...start(256), [name]: wrong }), refused(1, 0));
     assert.throws(() => pathpetal.make(start(256), long), refused(15, 0));
     assert.throws(() => pathpetal.check(new Uint8Array(0)), refused(12, 0));
 });
@@ -352,9 +436,9 @@ await test('what C could not be given is an error of the language', () => {
         assert.throws(() => pathpetal.make({ ...start(), cells }), RangeError);
     for (const most of [-1, 0.5, NaN, 2n ** 64n])
         assert.throws(() => pathpetal.run(file, most), RangeError);
-    for (const no of [null, undefined, [1, 2], new Int32Array(134), file.buffer, 'file'])
+    for (const no of [null, undefined, [1, 2], new Int32Array(143), file.buffer, 'file'])
         for (const call of [() => pathpetal.check(no), () => pathpetal.step(no, still(8, 0)), () => pathpetal.step(file, no), () => pathpetal.filter(no), () => pathpetal.run(no),
-            () => pathpetal.make({ ...start(), heights: no }), () => pathpetal.placeGauge(no, gauges, 1), () => pathpetal.placeGauge(file, no, 1),
+            () => pathpetal.make({ ...start(), heights: no }), () => pathpetal.make({ ...start(), dampings: no }), () => pathpetal.placeGauge(no, gauges, 1), () => pathpetal.placeGauge(file, no, 1),
             () => pathpetal.feedGauges(no, gauges), () => pathpetal.feedGauges(file, no), () => pathpetal.readGauges(no)])
             assert.throws(call, TypeError);
     for (const cell of [-1, 0.5, NaN, '1', undefined, 2n ** 64n])

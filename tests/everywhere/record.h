@@ -1,7 +1,7 @@
 /* Calls of pathpetal.h and the answers to them, as records in two files.
 
-   A call: kind and scene (1 byte each), four numbers (8 bytes each), then four strings, each its length (4 bytes) and
-   its bytes: the file and three rows. make takes all; step the file and the first row; run the file and the first
+   A call: kind and scene (1 byte each), four numbers (8 bytes each), then five strings, each its length (4 bytes) and
+   its bytes: the file and four rows. make takes all; step the file and the first row; run the file and the first
    number; filter and check the file. Gauges stand in the first row: placing one takes the file, them and the first
    number, feeding the file and them, and reading them alone, with the numbers read, 8 bytes each, in the second row.
    An answer: the answer (8 bytes), the length (4 bytes) and the bytes after the call of the one string that it may
@@ -15,8 +15,9 @@
 #include <stdlib.h>
 
 enum { DO_MAKE, DO_STEP, DO_FILTER, DO_CHECK, DO_RUN, DO_PLACE, DO_FEED, DO_READ, DO_KINDS };
-enum { NUMBERS = 4, STRINGS = 4, LONGEST = 20000 };
-enum { FILE_STRING, FIRST_ROW, SECOND_ROW, THIRD_ROW, GAUGES_STRING = FIRST_ROW, READINGS_STRING = SECOND_ROW };
+enum { NUMBERS = 4, STRINGS = 5, LONGEST = 20000 };
+enum { FILE_STRING, FIRST_ROW, SECOND_ROW, THIRD_ROW, FOURTH_ROW };
+enum { GAUGES_STRING = FIRST_ROW, READINGS_STRING = SECOND_ROW };
 
 /* The string that a call may change. */
 static inline int changed_by(unsigned kind)

@@ -4,11 +4,11 @@
 
 #include <stdbool.h>
 
-enum { CELLS = SECOND_CELLS, HEAD = 48, MORE = 16 };
+enum { CELLS = SECOND_CELLS, HEAD = 48, ROWS_START = 52, MORE = 16 };
 
 /* A channel's rows, and the channel that lends them. */
 struct channel {
-    int64_t h[CELLS], e[CELLS], u[CELLS], V[CELLS], Q[3 * (CELLS - 1)], F[3 * CELLS];
+    int64_t h[CELLS], e[CELLS], u[CELLS], V[CELLS], Q[3 * (CELLS - 1)], F[3 * CELLS], damping[CELLS];
     struct second_channel lends;
 };
 
@@ -46,7 +46,8 @@ static const uint8_t *take(int64_t *row, size_t len, const uint8_t *at, unsigned
 static void lend(struct channel *c, size_t N)
 {
     c->lends = (struct second_channel){.N = N, .h = {c->h, N}, .e = {c->e, N}, .u = {c->u, N}, .V = {c->V, N},
-                                       .Q = {c->Q, N ? 3 * (N - 1) : 0}, .F = {c->F, 3 * N}};
+                                       .Q = {c->Q, N ? 3 * (N - 1) : 0}, .F = {c->F, 3 * N},
+                                       .damping = {c->damping, N}};
 }
 
 /* The reader's checks of the bytes; the row beside the file, if there is one, has its place among the lent rows: if
@@ -64,7 +65,7 @@ static struct second_answer reader(const uint8_t *file, size_t len, bool beside,
 static void take_all(const uint8_t *file, struct channel *c)
 {
     size_t N = (size_t)count_at(file + 4);
-    const uint8_t *at = file + HEAD;
+    const uint8_t *at = file + ROWS_START;
     lend(c, N);
     c->lends.X = count_at(file + 8);
     c->lends.T = count_at(file + 12);
@@ -75,7 +76,8 @@ static void take_all(const uint8_t *file, struct channel *c)
     at = take(c->u, N, at, 4);
     at = take(c->V, N, at, 4);
     at = take(c->Q, 3 * (N - 1), at, 8);
-    take(c->F, 3 * N, at, 8);
+    at = take(c->F, 3 * N, at, 8);
+    take(c->damping, N, at, 4);
 }
 
 uint64_t expected_check(const uint8_t *file, size_t file_len)
@@ -137,13 +139,14 @@ uint64_t expected_make(uint64_t cells, uint64_t width_mm, uint64_t step_ms, uint
                        const uint8_t *depths, size_t depths_len,
                        const uint8_t *heights, size_t heights_len,
                        const uint8_t *velocities, size_t velocities_len,
+                       const uint8_t *dampings, size_t dampings_len,
                        uint8_t *file, size_t file_len)
 {
     struct channel c;
     if (cells < 8 || cells > CELLS)
         return refused(1);
     size_t N = (size_t)cells;
-    if (depths_len != 4 * N || heights_len != 4 * N || velocities_len != 4 * N)
+    if (depths_len != 4 * N || heights_len != 4 * N || velocities_len != 4 * N || dampings_len != 4 * N)
         return refused(1);
     lend(&c, N);
     c.lends.X = width_mm;
@@ -152,9 +155,10 @@ uint64_t expected_make(uint64_t cells, uint64_t width_mm, uint64_t step_ms, uint
     take(c.h, N, depths, 4);
     take(c.e, N, heights, 4);
     take(c.u, N, velocities, 4);
+    take(c.damping, N, dampings, 4);
     struct second_answer a = second_make(&c.lends);
     bool input = (a.number >= 1 && a.number <= 5) || a.number == 26 || a.number >= 31;
-    if (!input && file_len != 24 + 64 * N)
+    if (!input && file_len != 28 + 68 * N)
         return refused(15);
     if (a.number == 0)
         second_write(&c.lends, file, file_len);

@@ -1,9 +1,13 @@
 /* Channels for the test of the C interface. */
 #include "scenes.h"
 
-static uint64_t state;
+static uint64_t state, damping_state;
 
-void seed(uint64_t from) { state = from; }
+void seed(uint64_t from)
+{
+    state = from;
+    damping_state = ~from;
+}
 
 uint64_t draw(void)
 {
@@ -37,12 +41,37 @@ static int32_t wet(int64_t depth, int64_t height)
     return (int32_t)clamp(height < least ? least + between(0, 20) : height, -20000000, 20000000);
 }
 
+/* A damping of any size, at an end of its range, or one that makes a half of an odd velocity. */
+static int64_t damping(void)
+{
+    int64_t any = magnitude(10000), halves = 500 * (2 * between(0, 9) + 1);
+    return PICK(any, any, halves, halves, 1, 10000);
+}
+
+/* Dampings, drawn apart from all else. */
+static void damp(struct scene *s)
+{
+    uint64_t others = state;
+    state = damping_state;
+    bool none = one_in(2);
+    int64_t form = between(0, 3), most = damping(), end = between(2, (int64_t)s->cells);
+    int64_t at = PICK(0, (int64_t)s->cells - 1, between(0, (int64_t)s->cells - 1));
+    for (int64_t j = 0; j < (int64_t)s->cells; j++) {
+        int64_t each = damping(), into = at == 0 ? end - j : j + 1 - (int64_t)s->cells + end;
+        const int64_t forms[] = {j == at ? most : 0, most, clamp(most * into / end, 0, most), each};
+        s->dampings[j] = none ? 0 : (int32_t)forms[form];
+    }
+    damping_state = state;
+    state = others;
+}
+
 static void counts(struct scene *s, size_t cells, int64_t width, int64_t step, int64_t wanted)
 {
     s->cells = cells;
     s->width = (uint64_t)width;
     s->step = (uint64_t)step;
     s->wanted = (uint64_t)wanted;
+    damp(s);
 }
 
 static void cell(struct scene *s, size_t j, int64_t depth, int64_t height, int64_t velocity, int64_t poured)

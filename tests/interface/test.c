@@ -18,8 +18,9 @@
 enum kind { CHECK, STEP, FILTER, RUN, MAKE, KINDS };
 static const char *const names[KINDS] = {"check", "step", "filter", "run", "make"};
 
-enum { BYTES, POURED, DEPTHS, HEIGHTS, VELOCITIES, STRINGS };
-enum { ROOM = 40000, HEAD = 48, CANARIES = 64, ARENA = 65536 };
+enum { BYTES, POURED, DEPTHS, HEIGHTS, VELOCITIES, DAMPINGS, STRINGS };
+/* Fewer bytes than HEAD are no file of any edition; from ROWS_START on, behind WORDS counts and offsets, are the rows. */
+enum { ROOM = 40000, HEAD = 48, ROWS_START = 52, WORDS = ROWS_START / 4, CANARIES = 64, ARENA = 65536 };
 
 /* A byte string, in room enough for any length that is tried. */
 struct string {
@@ -41,7 +42,7 @@ static bool takes(enum kind kind, int i)
 
 struct interface {
     uint64_t (*make)(uint64_t, uint64_t, uint64_t, uint64_t, const uint8_t *, size_t, const uint8_t *, size_t,
-                     const uint8_t *, size_t, uint8_t *, size_t);
+                     const uint8_t *, size_t, const uint8_t *, size_t, uint8_t *, size_t);
     uint64_t (*check)(const uint8_t *, size_t);
     uint64_t (*step)(uint8_t *, size_t, const uint8_t *, size_t);
     uint64_t (*filter)(uint8_t *, size_t);
@@ -61,7 +62,7 @@ static uint64_t done_by(const struct interface *by, enum kind kind, const struct
     case FILTER: return by->filter(LENT(BYTES));
     case RUN: return by->run(LENT(BYTES), c->most);
     default: return by->make(c->cells, c->width, c->step, c->wanted, LENT(DEPTHS), LENT(HEIGHTS), LENT(VELOCITIES),
-                             LENT(BYTES));
+                             LENT(DAMPINGS), LENT(BYTES));
     }
 }
 
@@ -141,7 +142,7 @@ static bool canaries_live(int i, const uint8_t *at, size_t len)
 
 /* ---- counting ---- */
 
-enum { NUMBERS = 38, TURNS = 12 };
+enum { NUMBERS = 39, TURNS = 12 };
 static long passed, failed, damaged_files, settled[11];
 static long refused_at[KINDS][NUMBERS][TURNS]; /* turn 0: before the stages; 1 + k: stage k */
 
@@ -174,6 +175,13 @@ static long refused_by[RUNGS][NUMBERS][TURNS];
 /* How often a flux (0) or an acceleration (1) was refused in a level whose weight is 0, by the row of weights. */
 static long unweighed[2][RUNGS];
 
+/* How often a call did something with a channel that is damped (0), and was refused at a stage (1); and how often its
+   answer or another row would have been otherwise without the damping. */
+static long damped[KINDS][2], by_damping[KINDS][2];
+
+/* How often damping * u / 1000 was a half in a make: below zero (1), and beside an odd number towards zero (1). */
+static long damped_halves[2][2];
+
 static size_t rung_of(uint32_t accepted) { return accepted < RUNGS - 1 ? accepted : RUNGS - 1; }
 
 static void count_start(enum kind kind, uint32_t accepted, uint32_t wanted, bool refused)
@@ -190,7 +198,32 @@ static unsigned last_place(enum kind kind, const struct call *c, unsigned number
     return number == PATHPETAL_BAD_FLUX ? cells - 1 : cells;
 }
 
-static void count(enum kind kind, const struct call *c, uint64_t answer)
+/* A call that did something or was refused at a stage, and the file it left; the second program does it without the
+   damping. */
+static void count_damping(enum kind kind, const struct call *c, uint64_t answer, const uint8_t *left, bool refused)
+{
+    static uint8_t file[ROOM], none[4 * MOST_CELLS];
+    size_t n = kind == MAKE ? (size_t)c->cells : pathpetal_cells(c->string[BYTES].at), row = 28 + 64 * n;
+    const uint8_t *dampings = kind == MAKE ? c->string[DAMPINGS].at : c->string[BYTES].at + row;
+    if (!memcmp(dampings, none, 4 * n))
+        return;
+    memcpy(file, c->string[BYTES].at, c->string[BYTES].len);
+    memset(file + row, 0, 4 * n);
+    uint8_t *lent[STRINGS];
+    for (int i = 0; i < STRINGS; i++)
+        lent[i] = (uint8_t *)c->string[i].at;
+    lent[BYTES] = file, lent[DAMPINGS] = none;
+    damped[kind][refused]++;
+    by_damping[kind][refused] += done_by(&second, kind, c, lent) != answer || memcmp(file, left, row);
+    for (size_t j = 0; j < n && kind == MAKE && !refused; j++) {
+        int64_t u = pathpetal_signed(c->string[VELOCITIES].at + 4 * j), product = u * pathpetal_signed(dampings + 4 * j);
+        if (product % 1000 == 500 || product % 1000 == -500)
+            damped_halves[product < 0][product / 1000 % 2 != 0]++;
+    }
+}
+
+/* Counts a call, its answer and the file it left. */
+static void count(enum kind kind, const struct call *c, uint64_t answer, const uint8_t *left)
 {
     unsigned number = pathpetal_number(answer), stage = pathpetal_stage(answer), place = pathpetal_place(answer);
     uint64_t steps = pathpetal_count(answer);
@@ -220,6 +253,8 @@ static void count(enum kind kind, const struct call *c, uint64_t answer)
         if (kind == STEP)
             refused_by[rung_of(accepted)][number][at_stage ? 1 + stage : 0]++;
     }
+    if (kind != CHECK && (at_stage || number == 0 || steps > 0))
+        count_damping(kind, c, answer, left, at_stage);
 }
 
 static void expect(bool holds, const char *what)
@@ -236,11 +271,12 @@ static void tell(enum kind kind, const struct call *c, uint64_t a, uint64_t b, c
            names[kind], what, at, pathpetal_number(a), pathpetal_stage(a), pathpetal_place(a), pathpetal_count(a),
            pathpetal_number(b), pathpetal_stage(b), pathpetal_place(b), pathpetal_count(b), c->string[BYTES].len);
     if (kind == MAKE)
-        printf(" cells %" PRIu64 " width %" PRIu64 " step %" PRIu64 " wanted %" PRIu64 ", rows of %zu %zu %zu bytes\n",
+        printf(" cells %" PRIu64 " width %" PRIu64 " step %" PRIu64 " wanted %" PRIu64
+               ", rows of %zu %zu %zu %zu bytes\n",
                c->cells, c->width, c->step, c->wanted, c->string[DEPTHS].len, c->string[HEIGHTS].len,
-               c->string[VELOCITIES].len);
+               c->string[VELOCITIES].len, c->string[DAMPINGS].len);
     else {
-        for (size_t i = 0; i < 12 && c->string[BYTES].len >= HEAD; i++)
+        for (size_t i = 0; i < WORDS && c->string[BYTES].len >= ROWS_START; i++)
             printf(" %" PRIu32, pathpetal_word(c->string[BYTES].at + 4 * i));
         printf(kind == STEP ? ", %zu poured bytes\n" : "\n", c->string[POURED].len);
     }
@@ -278,7 +314,7 @@ static uint64_t compare(enum kind kind, struct call *c)
         passed++;
     else if (failed++ < 20)
         tell(kind, c, a, b, what, where);
-    count(kind, c, b);
+    count(kind, c, b, theirs);
     memcpy(c->string[BYTES].at, theirs, c->string[BYTES].len);
     return b;
 }
@@ -316,16 +352,21 @@ static void set_start(struct call *c)
     set_word(c, ACCEPTED, (uint64_t)from);
 }
 
-/* The six rows of a file of n cells: where they start, the bytes of an entry, how many there are, and their range. */
-enum { ROW_h, ROW_e, ROW_u, ROW_V, ROW_Q, ROW_F, ROWS };
-static const int64_t row_least[ROWS] = {1, -20000000, -20000000, -2000000000, -1000000000000000, -100000000000};
-static const int64_t row_most[ROWS] = {20000, 20000000, 20000000, 2000000000, 1000000000000000, 100000000000};
+/* The seven rows of a file of n cells: where they start, the bytes of an entry, how many there are, and their range. */
+enum { ROW_h, ROW_e, ROW_u, ROW_V, ROW_Q, ROW_F, ROW_damping, ROWS };
+static const int64_t row_least[ROWS] = {1, -20000000, -20000000, -2000000000, -1000000000000000, -100000000000, 0};
+static const int64_t row_most[ROWS] = {20000, 20000000, 20000000, 2000000000, 1000000000000000, 100000000000, 10000};
 static size_t row_start(int row, size_t n)
 {
-    return row < ROW_F ? HEAD + 4 * n * (size_t)row : 24 + 40 * n;
+    return row < ROW_F ? ROWS_START + 4 * n * (size_t)row : row == ROW_F ? 28 + 40 * n : 28 + 64 * n;
 }
-static unsigned row_bytes(int row) { return row < ROW_Q ? 4 : 8; }
+static bool has_levels(int row) { return row == ROW_Q || row == ROW_F; }
+static unsigned row_bytes(int row) { return has_levels(row) ? 8 : 4; }
 static size_t row_len(int row, size_t n) { return row == ROW_Q ? 3 * (n - 1) : row == ROW_F ? 3 * n : n; }
+
+/* The rows that make takes, in its order. */
+enum { MADE_ROWS = 4 };
+static const int made_rows[MADE_ROWS] = {ROW_h, ROW_e, ROW_u, ROW_damping};
 
 static void set_entry(struct call *c, size_t n, int row, size_t j, int64_t value)
 {
@@ -377,8 +418,9 @@ static void set_scene(struct call *c, const struct scene *s)
     put_row(&c->string[DEPTHS], s->depths, n);
     put_row(&c->string[HEIGHTS], s->heights, n);
     put_row(&c->string[VELOCITIES], s->velocities, n);
+    put_row(&c->string[DAMPINGS], s->dampings, n);
     put_row(&c->string[POURED], s->poured, n);
-    c->string[BYTES].len = 24 + 64 * n;
+    c->string[BYTES].len = 28 + 68 * n;
     for (size_t j = 0; j < c->string[BYTES].len; j += 8)
         put(c->string[BYTES].at + j, draw(), 8);
 }
@@ -461,12 +503,12 @@ static void damaged(struct call *c)
 /* Every word of the head at every bound, one off what it is, and at random. */
 static void head_words(const struct call *from)
 {
-    static const uint32_t bounds[] = {0, 1, 2, 3, 7, 8, 9, 10, 11, 47, 48, 49, 99, 100, 101, 255, 256, 257, 4999, 5000,
-                                      5001, 65535, 65536, 999999, 1000000, 1000001, 0x01000000, 0x7FFFFFFF, 0x80000000,
-                                      0x80000001, 0xFFFFFFFE, 0xFFFFFFFF};
+    static const uint32_t bounds[] = {0, 1, 2, 3, 7, 8, 9, 10, 11, 47, 48, 49, 51, 52, 53, 99, 100, 101, 255, 256, 257,
+                                      4999, 5000, 5001, 65535, 65536, 999999, 1000000, 1000001, 0x01000000, 0x7FFFFFFF,
+                                      0x80000000, 0x80000001, 0xFFFFFFFE, 0xFFFFFFFF};
     static struct call c;
     set_file(&c, from);
-    for (int i = 0; i < 12; i++) {
+    for (int i = 0; i < WORDS; i++) {
         uint32_t was = word(from, i);
         uint32_t any = (uint32_t)draw(), small = (uint32_t)draw() % 300;
         const uint32_t near[] = {was - 4, was - 1, was + 1, was + 4, was + 0x100, was + 0x10000, was + 0x1000000,
@@ -481,7 +523,7 @@ static void head_words(const struct call *from)
         }
         set_word(&c, i, was);
     }
-    for (int i = OFFSETS; i < 11; i++) {
+    for (int i = OFFSETS; i + 1 < WORDS; i++) {
         set_word(&c, i, word(from, i + 1));
         set_word(&c, i + 1, word(from, i));
         damaged(&c);
@@ -506,7 +548,7 @@ static void lengthened(struct call *c, const struct call *from, size_t len)
 static void lengths(const struct call *from)
 {
     static struct call c;
-    size_t n = word(from, CELLS), len = 24 + 64 * n;
+    size_t n = word(from, CELLS), len = 28 + 68 * n;
     for (size_t l = 0; l < len && n <= 9; l++)
         lengthened(&c, from, l);
     for (size_t l = 0; l < 60; l++)
@@ -517,7 +559,7 @@ static void lengths(const struct call *from)
     for (size_t l = len - 70; l < len; l++)
         lengthened(&c, from, l);
     for (size_t other = 7; other <= 260; other += n < 64 ? 1 : 20)
-        lengthened(&c, from, 24 + 64 * other);
+        lengthened(&c, from, 28 + 68 * other), lengthened(&c, from, 24 + 64 * other);
     lengthened(&c, from, 2 * len);
     lengthened(&c, from, ROOM);
 }
@@ -529,9 +571,9 @@ static void values(const struct call *from)
     size_t n = word(from, CELLS);
     set_file(&c, from);
     for (int row = 0; row < ROWS; row++) {
-        size_t len = row_len(row, n), level = row < ROW_Q ? len : len / 3;
+        size_t len = row_len(row, n), level = has_levels(row) ? len / 3 : len;
         const size_t cells[] = {0, 1, level - 1, level % len, 2 * level % len, len - 2, len - 1, draw() % len};
-        int64_t far = row < ROW_Q ? INT32_MAX : INT64_MAX;
+        int64_t far = has_levels(row) ? INT64_MAX : INT32_MAX;
         const int64_t to[] = {row_least[row] - 1, row_least[row], row_least[row] + 1, row_most[row] - 1, row_most[row],
                               row_most[row] + 1, far, -far - 1, 0, -1, 1, between(-far / 2, far / 2)};
         for (size_t i = 0; i < sizeof cells / sizeof *cells; i++)
@@ -638,11 +680,11 @@ static void random_bytes(const struct call *from)
     size_t len = from->string[BYTES].len;
     set_file(&c, from);
     for (uint64_t k = one_in(2) ? 1 : 1 + draw() % 8; k > 0; k--) {
-        size_t at = one_in(3) ? draw() % HEAD : one_in(2) ? HEAD + draw() % (len - HEAD) : draw() % len;
+        size_t at = one_in(3) ? draw() % ROWS_START : one_in(2) ? ROWS_START + draw() % (len - ROWS_START) : draw() % len;
         c.string[BYTES].at[at] = one_in(3) ? (uint8_t)draw() : (uint8_t)(c.string[BYTES].at[at] ^ 1u << draw() % 8);
     }
     if (one_in(10))
-        c.string[BYTES].len += (size_t)PICK(1, -1, 8, -8, 64, -64);
+        c.string[BYTES].len += (size_t)PICK(1, -1, 4, -4, 8, -8, 68, -68);
     damaged(&c);
 }
 
@@ -696,10 +738,10 @@ static void damage(struct call *c, size_t n, enum fault fault)
         }
         break;
     case OFFSET: row = OFFSETS + (int)(draw() % ROWS); set_word(c, row, word(c, row) + (uint64_t)PICK(1, -1, 4)); break;
-    case LENGTH: c->string[BYTES].len += (size_t)PICK(1, -1, 64, -64, 8); break;
+    case LENGTH: c->string[BYTES].len += (size_t)PICK(1, -1, 4, -4, 68, -68); break;
     case POURED_LENGTH: wrong_length(&c->string[POURED]); break;
     case CELLS_FAULT: set_word(c, CELLS, (uint64_t)PICK(0, 7, 257, UINT32_MAX, 1 << 30)); break;
-    case EDITION_FAULT: set_word(c, EDITION, (uint64_t)PICK(0, 2, 3, 257, UINT32_MAX)); break;
+    case EDITION_FAULT: set_word(c, EDITION, (uint64_t)PICK(0, 1, 3, 258, UINT32_MAX)); break;
     default: c->string[BYTES].len = draw() % HEAD; break;
     }
 }
@@ -743,10 +785,13 @@ static bool is_at(uint64_t answer, unsigned number, unsigned stage, unsigned pla
            pathpetal_place(answer) == place && pathpetal_count(answer) == steps;
 }
 
-static unsigned row_number(int row) { return PATHPETAL_BAD_DEPTH + (unsigned)row; }
+static unsigned row_number(int row)
+{
+    return row == ROW_damping ? PATHPETAL_BAD_DAMPING : PATHPETAL_BAD_DEPTH + (unsigned)row;
+}
 
 /* How many levels a row has, and how many entries each of them. */
-static size_t row_levels(int row) { return row < ROW_Q ? 1 : 3; }
+static size_t row_levels(int row) { return has_levels(row) ? 3 : 1; }
 static size_t level_len(int row, size_t n) { return row_len(row, n) / row_levels(row); }
 
 /* The place to try after another: each of them, or five of a long row, the first and the last among them. */
@@ -854,17 +899,18 @@ static void made_places(size_t n)
     static struct call c;
     static struct scene s;
     calm(&s, n);
-    for (int row = ROW_h; row <= ROW_u; row++)
+    for (int i = 0; i < MADE_ROWS; i++)
         for (size_t j = 0; j < n; j = next_place(j, n)) {
             set_scene(&c, &s);
-            for (int later = row; later <= ROW_u; later++) {
-                size_t at = later > row && j > 0 ? draw() % j : j;
+            for (int later = i; later < MADE_ROWS; later++) {
+                size_t at = later > i && j > 0 ? draw() % j : j;
+                int row = made_rows[later];
                 put(c.string[DEPTHS + later].at + 4 * at,
-                    (uint64_t)(one_in(2) ? row_most[later] + 1 : row_least[later] - 1), 4);
+                    (uint64_t)(one_in(2) ? row_most[row] + 1 : row_least[row] - 1), 4);
             }
             if (j + 1 < n)
-                put(c.string[DEPTHS + row].at + 4 * (n - 1), (uint64_t)row_least[row] - 1, 4);
-            expect(is_at(compare(MAKE, &c), row_number(row), 0, (unsigned)j + 1, 0),
+                put(c.string[DEPTHS + i].at + 4 * (n - 1), (uint64_t)row_least[made_rows[i]] - 1, 4);
+            expect(is_at(compare(MAKE, &c), row_number(made_rows[i]), 0, (unsigned)j + 1, 0),
                    "a fault in make's rows is told by its row and place");
         }
 }
@@ -913,7 +959,7 @@ static void spoil_make(struct call *c)
                                       1000000, 1000001, UINT32_MAX, 1ull << 32, INT64_MAX, UINT64_MAX};
     uint64_t any = counts[draw() % (sizeof counts / sizeof *counts)];
     uint64_t over = 1ull << PICK(32, 33, 58, 62, 63); /* what is lost if a product or a number is cut short */
-    int i = DEPTHS + (int)(draw() % 3), row = i - DEPTHS;
+    int made = (int)(draw() % MADE_ROWS), i = DEPTHS + made, row = made_rows[made];
     size_t n = c->string[i].len / 4, j = n ? PICK(0, (int64_t)n - 1, (int64_t)(draw() % n)) : 0;
     switch (draw() % 13) {
     case 0: c->cells = any; break;
@@ -1031,25 +1077,30 @@ static void channels(void)
     }
 }
 
-static void rare_channels(void)
+/* Rare channels: without the dampings that their seeds draw, or with them, and then met by them alone. */
+static void rare_channels(const struct rare *of, size_t len, bool with)
 {
     static const enum kind kinds[] = {[RARE_STEP] = STEP, [RARE_RUN] = RUN, [RARE_FILTER] = FILTER};
     static struct call c;
     static struct scene s;
-    for (size_t i = 0; i < sizeof rares / sizeof *rares; i++) {
-        const struct rare *r = &rares[i];
+    for (const struct rare *r = of; r < of + len; r++) {
+        enum kind kind = kinds[r->call];
+        long other = by_damping[kind][true];
         seed(r->from);
         size_t n = (size_t)between(8, 12);
         r->scene(&s, n);
         for (size_t j = 0; j < n; j++)
             s.velocities[j] = (int32_t)(s.velocities[j] * r->millionths / 1000000);
+        if (!with)
+            memset(s.dampings, 0, sizeof s.dampings);
         set_scene(&c, &s);
         compare(MAKE, &c);
         set_word(&c, ACCEPTED, r->start);
         c.most = 40;
-        uint64_t answer = compare(kinds[r->call], &c);
+        uint64_t answer = compare(kind, &c);
         expect(pathpetal_number(answer) == r->number && pathpetal_stage(answer) == r->stage,
                "a rare refusal is met where it was found");
+        expect(!with || by_damping[kind][true] == other + 1, "a rare refusal is met by the damping");
     }
 }
 
@@ -1060,7 +1111,7 @@ static void even(struct call *c, size_t n, int32_t deep, int32_t high, uint64_t 
     static struct scene s;
     s.cells = n, s.width = 1000, s.step = 20, s.wanted = wanted;
     for (size_t j = 0; j < n; j++)
-        s.depths[j] = deep, s.heights[j] = high, s.velocities[j] = 0, s.poured[j] = 0;
+        s.depths[j] = deep, s.heights[j] = high, s.velocities[j] = s.dampings[j] = s.poured[j] = 0;
     set_scene(c, &s);
 }
 
@@ -1081,7 +1132,7 @@ static bool is(uint64_t answer, unsigned number, unsigned stage, uint64_t steps)
 /* The header's four readers give back what was packed. */
 static void readers(void)
 {
-    static const unsigned numbers[] = {0, 4, 16, 26, 31, 37, 255}, stages[] = {0, 1, 10, 255};
+    static const unsigned numbers[] = {0, 4, 16, 26, 31, 38, 255}, stages[] = {0, 1, 10, 255};
     static const unsigned at[] = {0, 1, 255, 256, 511};
     static const uint64_t counts[] = {0, 1, 10, 999999, 1000000};
     for (size_t i = 0; i < sizeof numbers / sizeof *numbers; i++)
@@ -1117,7 +1168,7 @@ static void known_places(void)
 /* A cell's number in make's row and in the file. */
 static void set_both(struct call *c, size_t n, int row, size_t j, int64_t value)
 {
-    put(c->string[DEPTHS + row].at + 4 * j, (uint64_t)value, 4);
+    put(c->string[row == ROW_damping ? DAMPINGS : DEPTHS + row].at + 4 * j, (uint64_t)value, 4);
     set_entry(c, n, row, j, value);
 }
 
@@ -1136,26 +1187,44 @@ static void still(struct call *c, size_t n, uint64_t width, uint64_t step, int32
     set_step(c, width, step);
 }
 
-/* All calls accept still water, or all refuse it, and then leave every byte as it was. */
-static void all_answer(const struct call *from, unsigned number, const char *what)
+/* All calls of a file, and make if it is among them, accept still water, or all refuse it by the same number and place,
+   and then leave every byte as it was. */
+static void kinds_answer(const struct call *from, int kinds, unsigned number, unsigned at, const char *what)
 {
     static struct call c;
     uint8_t gauges[PATHPETAL_GAUGES_LENGTH] = {0}, none[PATHPETAL_GAUGES_LENGTH] = {0};
     const uint8_t *file = from->string[BYTES].at;
     size_t len = from->string[BYTES].len;
-    for (enum kind kind = CHECK; kind < KINDS; kind++) {
+    for (int kind = CHECK; kind < kinds; kind++) {
         bool takes_step = number == 0 && (kind == STEP || kind == RUN);
         c = *from;
         c.most = 1;
-        expect(is(compare(kind, &c), takes_step && kind == RUN ? PATHPETAL_MORE : number, 0, takes_step), what);
+        uint64_t answer = compare((enum kind)kind, &c);
+        expect(is_at(answer, takes_step && kind == RUN ? PATHPETAL_MORE : number, 0, at, takes_step), what);
         expect(number == 0 || !memcmp(c.string[BYTES].at, file, len), "a refused call leaves the file as it was");
     }
+    expect(is_at(pathpetal_place_gauge(file, len, gauges, sizeof gauges, 1), number, 0, at, number == 0), what);
+    expect(is_at(pathpetal_feed_gauges(file, len, gauges, sizeof gauges), number, 0, at, 0), what);
+    expect(number == 0 || !memcmp(gauges, none, sizeof gauges), "a refused call leaves the gauges as they were");
+}
+
+static void files_answer(const struct call *from, unsigned number, unsigned at, const char *what)
+{
+    kinds_answer(from, MAKE, number, at, what);
+}
+
+static void all_answer_at(const struct call *from, unsigned number, unsigned at, const char *what)
+{
+    static struct call c;
+    kinds_answer(from, KINDS, number, at, what);
     c = *from;
     c.string[BYTES].len--;
-    expect(is(compare(MAKE, &c), number ? number : PATHPETAL_BUFFER, 0, 0), "make without room for the file");
-    expect(is(pathpetal_place_gauge(file, len, gauges, sizeof gauges, 1), number, 0, number == 0), what);
-    expect(is(pathpetal_feed_gauges(file, len, gauges, sizeof gauges), number, 0, 0), what);
-    expect(number == 0 || !memcmp(gauges, none, sizeof gauges), "a refused call leaves the gauges as they were");
+    expect(is_at(compare(MAKE, &c), number ? number : PATHPETAL_BUFFER, 0, at, 0), "make without room for the file");
+}
+
+static void all_answer(const struct call *from, unsigned number, const char *what)
+{
+    all_answer_at(from, number, 0, what);
 }
 
 /* The edge of refusal 26 by one ms, by one mm of width and by one mm of depth; the least and the largest numbers. */
@@ -1239,6 +1308,188 @@ static void known_time_step_order(void)
         expect(is_at(compare(kind, &c), PATHPETAL_BAD_VELOCITY, 0, 3, 0), "after a velocity out of its range");
 }
 
+/* An entry of one of the levels of accelerations. */
+static int64_t acceleration(const struct call *c, size_t n, size_t j)
+{
+    const uint8_t *at = c->string[BYTES].at + row_start(ROW_F, n) + 8 * j;
+    return pathpetal_word(at) + (int64_t)pathpetal_signed(at + 4) * 4294967296;
+}
+
+/* Water that slopes by 12 um a cell and moves alike: in the cells 3 to 6 F is -118, less what the damping takes. A half
+   of that goes to the even number. */
+static void known_damping(void)
+{
+    static const struct {
+        int32_t velocity, damping, taken;
+    } at[] = {
+        {1, 0, 0},      {1, 499, 0},      {1, 500, 0},   {1, 501, 1},     {3, 499, 1},    {3, 500, 2},    {5, 500, 2},
+        {7, 500, 4},    {1, 9500, 10},    {1, 10000, 10}, {-1, 500, 0},   {-1, 501, -1},  {-3, 500, -2},  {-5, 500, -2},
+        {-1, 10000, -10}, {499, 1, 0},    {500, 1, 0},   {501, 1, 1},     {1500, 1, 2},   {10000, 1, 10},
+        {20000000, 1, 20000},             {20000000, 10000, 200000000},   {-20000000, 10000, -200000000},
+        {19999999, 9999, 199979990},      {-19999999, 9999, -199979990},
+    };
+    static struct call c;
+    for (size_t i = 0; i < sizeof at / sizeof *at; i++) {
+        even(&c, 8, 1000, 0, 10);
+        for (size_t j = 0; j < 8; j++) {
+            put(c.string[HEIGHTS].at + 4 * j, 12 * (j + 1), 4);
+            put(c.string[VELOCITIES].at + 4 * j, (uint64_t)at[i].velocity, 4);
+            put(c.string[DAMPINGS].at + 4 * j, (uint64_t)at[i].damping, 4);
+        }
+        expect(is(compare(MAKE, &c), 0, 0, 0), "a slope with damping is made");
+        for (size_t level = 0; level < 3; level++)
+            for (size_t j = 2; j < 6; j++)
+                expect(acceleration(&c, 8, 8 * level + j) == -118 - at[i].taken, "what the damping takes from F");
+        for (size_t j = 0; j < 8; j++)
+            expect(pathpetal_damping(c.string[BYTES].at, j) == at[i].damping, "the dampings in the file");
+    }
+    even(&c, 8, 1000, 0, 10);
+    put(c.string[HEIGHTS].at + 8, 1, 4);
+    put(c.string[VELOCITIES].at + 12, 3, 4);
+    put(c.string[DAMPINGS].at + 12, 150, 4);
+    expect(is(compare(MAKE, &c), 0, 0, 0) && acceleration(&c, 8, 3) == 7, "6.54 and 0.45, each rounded by itself");
+}
+
+/* A damping just in its range and just out of it, in the first cell, in the middle and in the last. */
+static void known_dampings(void)
+{
+    static const size_t sizes[] = {8, 23, 256};
+    static const int64_t in[] = {0, 1, 9999, 10000}, out[] = {-1, 10001, INT32_MIN, INT32_MAX};
+    static struct call c;
+    expect(PATHPETAL_BAD_DAMPING == 38, "the number of a damping that is out of its range");
+    for (size_t i = 0; i < sizeof sizes / sizeof *sizes; i++) {
+        size_t n = sizes[i];
+        const size_t cells[] = {0, n / 2, n - 1};
+        for (size_t k = 0; k < sizeof cells / sizeof *cells; k++)
+            for (size_t l = 0; l < 4; l++) {
+                size_t j = cells[k];
+                still(&c, n, 5000, 1, 1000);
+                set_both(&c, n, ROW_damping, j, in[l]);
+                all_answer(&c, 0, "a damping at an end of its range");
+                set_both(&c, n, ROW_damping, j, out[l]);
+                all_answer_at(&c, PATHPETAL_BAD_DAMPING, (unsigned)j + 1, "a damping out of its range");
+                set_both(&c, n, ROW_damping, n - 1, out[(l + 1) % 4]);
+                all_answer_at(&c, PATHPETAL_BAD_DAMPING, (unsigned)j + 1, "the lower of two cells");
+            }
+    }
+}
+
+/* A damping out of its range beside the faults that come after it, and then beside those that come before it. */
+static void known_damping_order(void)
+{
+    static struct call c, start;
+    still(&start, 8, 20, 22, 500);
+    set_both(&start, 8, ROW_damping, 4, 10001);
+    set_both(&start, 8, ROW_u, 0, 20000000);
+    all_answer_at(&start, PATHPETAL_BAD_DAMPING, 5, "before a reduced velocity that make finds too large");
+    set_both(&start, 8, ROW_h, 2, 100);
+    all_answer_at(&start, PATHPETAL_BAD_DAMPING, 5, "before a row that is not dominant");
+    set_step(&start, 20, 23);
+    all_answer_at(&start, PATHPETAL_BAD_DAMPING, 5, "before a time step that is too long");
+    set_both(&start, 8, ROW_e, 0, 999 - 500000);
+    all_answer_at(&start, PATHPETAL_BAD_DAMPING, 5, "before a cell with too little water");
+    put(start.string[POURED].at + 4, 1000001, 4);
+    all_answer_at(&start, PATHPETAL_BAD_DAMPING, 5, "before a poured amount");
+    set_word(&start, ACCEPTED, word(&start, WANTED));
+    all_answer_at(&start, PATHPETAL_BAD_DAMPING, 5, "a complete channel");
+    c = start;
+    set_both(&c, 8, ROW_damping, 4, 10000);
+    for (enum kind kind = CHECK; kind < KINDS; kind++)
+        expect(kind == STEP ? is_at(compare(kind, &c), PATHPETAL_BAD_POURED, 0, 2, 0)
+                            : is_at(compare(kind, &c), PATHPETAL_DEPTH, 0, 1, 0), "what comes next, by itself");
+    for (int row = ROW_F; row >= ROW_h; row--) {
+        set_wrong(&start, 8, row, row_len(row, 8) - 1);
+        files_answer(&start, row_number(row), (unsigned)level_len(row, 8), "after all other values of the file");
+    }
+    set_word(&start, WIDTH, 9);
+    files_answer(&start, PATHPETAL_COUNTS, 0, "after the counts");
+    set_word(&start, WORDS - 1, word(&start, WORDS - 1) - 4);
+    files_answer(&start, PATHPETAL_OFFSETS, 0, "after the offsets");
+    start.string[BYTES].len--;
+    files_answer(&start, PATHPETAL_LENGTH, 0, "after the length");
+    c = start;
+    c.string[POURED].len--;
+    expect(is(compare(STEP, &c), PATHPETAL_SHAPE, 0, 0), "after the length of the poured row");
+    set_word(&start, CELLS, 7);
+    files_answer(&start, PATHPETAL_SHAPE, 0, "after the cells");
+    set_word(&start, EDITION, 1);
+    files_answer(&start, PATHPETAL_EDITION, 0, "after the edition");
+}
+
+/* The beginnings of files: of 48 bytes and more the edition comes first, then the cells, then the length. */
+static void known_beginnings(void)
+{
+    static const struct {
+        uint32_t edition, cells;
+        unsigned due;
+    } at[] = {
+        {2, 8, 12}, {2, 9, 12}, {2, 256, 12}, {2, 7, 1},  {2, 0, 1},  {2, 257, 1}, {2, UINT32_MAX, 1}, {1, 8, 13},
+        {1, 7, 13}, {0, 8, 13}, {3, 8, 13},   {3, 0, 13}, {258, 8, 13}, {UINT32_MAX, 8, 13},
+    };
+    static struct call c;
+    for (size_t i = 0; i < sizeof at / sizeof *at; i++)
+        for (size_t len = 46; len <= 56; len++) {
+            still(&c, 8, 5000, 1, 1000);
+            set_word(&c, EDITION, at[i].edition), set_word(&c, CELLS, at[i].cells);
+            c.string[BYTES].len = len;
+            c.string[POURED].len = at[i].due == 12 ? 4 * at[i].cells : 32;
+            files_answer(&c, len < HEAD ? PATHPETAL_LENGTH : at[i].due, 0, "the beginning of a file");
+            c.string[POURED].len--;
+            expect(is(compare(STEP, &c), len < HEAD ? 12 : at[i].due == 13 ? 13 : 1, 0, 0),
+                   "the beginning of a file and a poured row of another length");
+        }
+}
+
+/* The file of edition 1 of the same channel: one offset fewer, all others 4 less, and no row of dampings. */
+static void to_edition_1(struct call *c, size_t n)
+{
+    for (int i = OFFSETS; i + 1 < WORDS; i++)
+        set_word(c, i, word(c, i) - 4);
+    set_word(c, EDITION, 1);
+    memmove(c->string[BYTES].at + HEAD, c->string[BYTES].at + ROWS_START, 64 * n - 24);
+    c->string[BYTES].len = 24 + 64 * n;
+}
+
+/* Files that are right but for their edition, for one offset or for a byte more or less. */
+static void known_editions(void)
+{
+    static const size_t sizes[] = {8, 23, 256};
+    static struct call c, start;
+    for (size_t k = 0; k < sizeof sizes / sizeof *sizes; k++) {
+        size_t n = sizes[k];
+        const size_t due[WORDS - OFFSETS] = {52,          52 + 4 * n,  52 + 8 * n, 52 + 12 * n,
+                                             52 + 16 * n, 28 + 40 * n, 28 + 64 * n};
+        still(&start, n, 5000, 1, 1000);
+        expect(word(&start, EDITION) == 2 && start.string[BYTES].len == 28 + 68 * n, "a file of edition 2");
+        for (int i = OFFSETS; i < WORDS; i++) {
+            expect(word(&start, i) == due[i - OFFSETS], "where the rows start");
+            for (int64_t off = -4; off <= 4; off++) {
+                c = start;
+                set_word(&c, i, word(&c, i) + (uint64_t)off);
+                files_answer(&c, off ? PATHPETAL_OFFSETS : 0, 0, "one offset is wrong");
+            }
+        }
+        c = start;
+        for (int i = OFFSETS; i < WORDS; i++)
+            set_word(&c, i, word(&c, i) - 4);
+        files_answer(&c, PATHPETAL_OFFSETS, 0, "all offsets are 4 less");
+        for (int64_t off = -4; off <= 4; off++) {
+            c = start;
+            memset(c.string[BYTES].at + c.string[BYTES].len, 0, 4);
+            c.string[BYTES].len += (size_t)off;
+            files_answer(&c, off ? PATHPETAL_LENGTH : 0, 0, "some bytes more or less");
+        }
+        c = start;
+        set_word(&c, EDITION, 1);
+        files_answer(&c, PATHPETAL_EDITION, 0, "edition 1 in the form of edition 2");
+        c = start;
+        to_edition_1(&c, n);
+        files_answer(&c, PATHPETAL_EDITION, 0, "edition 1");
+        set_word(&c, EDITION, 2);
+        files_answer(&c, PATHPETAL_LENGTH, 0, "edition 2 in the form of edition 1");
+    }
+}
+
 /* Water that slopes from wall to wall, at rest: its first steps, and a run of as many, from the same file. Other numbers
    than these, or than those of the filter passes below, would be another rule's, which then has another number. */
 static void known_first_steps(void)
@@ -1248,7 +1499,7 @@ static void known_first_steps(void)
     static struct call c, ran;
     s.cells = 16, s.width = 500, s.step = 50, s.wanted = 10;
     for (size_t j = 0; j < 16; j++)
-        s.depths[j] = 1000, s.heights[j] = 16000 - 1000 * (int32_t)j, s.velocities[j] = 0, s.poured[j] = 0;
+        s.depths[j] = 1000, s.heights[j] = 16000 - 1000 * (int32_t)j, s.velocities[j] = s.dampings[j] = s.poured[j] = 0;
     set_scene(&c, &s);
     expect(pathpetal_rule() == 3, "the rule's number");
     expect(is(compare(MAKE, &c), 0, 0, 0), "a slope of 16 cells is made");
@@ -1290,11 +1541,13 @@ static void known(void)
     uint8_t *file = c.string[BYTES].at;
     even(&c, 8, 1000, 7, 10);
     expect(is(compare(MAKE, &c), 0, 0, 0), "a channel of still water is made");
-    expect(c.string[BYTES].len == pathpetal_length(8) && pathpetal_length(8) == 536, "8 cells are 536 bytes");
+    expect(c.string[BYTES].len == pathpetal_length(8) && pathpetal_length(8) == 572 && pathpetal_length(256) == 17436,
+           "8 cells are 572 bytes, and 256 are 17,436");
     expect(pathpetal_cells(file) == 8 && pathpetal_width_mm(file) == 1000 && pathpetal_step_ms(file) == 20 &&
            pathpetal_accepted(file) == 0 && pathpetal_wanted(file) == 10, "the file's counts are those given");
     expect(pathpetal_depth_mm(file, 7) == 1000 && pathpetal_height_um(file, 7) == 7 &&
-           pathpetal_velocity_um_s(file, 7) == 0, "the file's rows are those given");
+           pathpetal_velocity_um_s(file, 7) == 0 && pathpetal_damping(file, 7) == 0,
+           "the file's rows are those given");
     expect(!pathpetal_complete(file) && heights(&c) == 56, "open, heights 56");
     expect(is(compare(CHECK, &c), 0, 0, 0), "its file is one");
     expect(is(compare(STEP, &c), 0, 0, 1), "still water settles at the first correction");
@@ -1326,24 +1579,28 @@ static void nothing_lent(void)
 {
     static struct call c;
     even(&c, 8, 1000, 7, 10);
-    uint8_t row[32], file[536], before[536];
+    uint8_t row[32], file[572], before[572];
     memcpy(row, c.string[DEPTHS].at, 32);
-    expect(is(pathpetal_make(8, 1000, 20, 10, NULL, 0, NULL, 0, NULL, 0, NULL, 0), 1, 0, 0), "make of nothing");
-    expect(is(pathpetal_make(0, 0, 0, 0, NULL, 0, NULL, 0, NULL, 0, NULL, 0), 1, 0, 0), "make of no cells");
-    expect(is(pathpetal_make(1ull << 62, 1000, 20, 10, NULL, 0, NULL, 0, NULL, 0, NULL, 0), 1, 0, 0),
+    expect(is(pathpetal_make(8, 1000, 20, 10, NULL, 0, NULL, 0, NULL, 0, NULL, 0, NULL, 0), 1, 0, 0), "make of nothing");
+    expect(is(pathpetal_make(0, 0, 0, 0, NULL, 0, NULL, 0, NULL, 0, NULL, 0, NULL, 0), 1, 0, 0), "make of no cells");
+    expect(is(pathpetal_make(1ull << 62, 1000, 20, 10, NULL, 0, NULL, 0, NULL, 0, NULL, 0, NULL, 0), 1, 0, 0),
            "make of so many cells that 4 bytes for each seem to be none");
-    expect(is(pathpetal_make(8, 1000, 20, 10, row, 32, row, 32, row, 32, NULL, 0), 15, 0, 0), "make into nothing");
-    expect(is(pathpetal_make(8, 1000, 20, 10, row, 32, row, 32, row, 32, file, 536), 0, 0, 0), "one row lent thrice");
-    memcpy(before, file, 536);
+    expect(is(pathpetal_make(8, 1000, 20, 10, row, 32, row, 32, row, 32, row, 32, NULL, 0), 15, 0, 0),
+           "make into nothing");
+    expect(is(pathpetal_make(8, 1000, 20, 10, row, 32, row, 32, row, 32, row, 32, file, 572), 0, 0, 0),
+           "one row lent four times");
+    expect(is(pathpetal_make(8, 1000, 20, 10, row, 32, row, 32, row, 32, NULL, 0, file, 572), 1, 0, 0),
+           "nothing is no row of dampings");
+    memcpy(before, file, 572);
     expect(is(pathpetal_check(NULL, 0), 12, 0, 0) && is(pathpetal_filter(NULL, 0), 12, 0, 0) &&
            is(pathpetal_run(NULL, 0, 5), 12, 0, 0) && is(pathpetal_step(NULL, 0, NULL, 0), 12, 0, 0) &&
            is(pathpetal_step(NULL, 0, row, 32), 12, 0, 0), "no bytes are no file");
-    expect(is(pathpetal_step(file, 536, NULL, 0), 1, 0, 0) && !memcmp(file, before, 536), "nothing is no poured row");
+    expect(is(pathpetal_step(file, 572, NULL, 0), 1, 0, 0) && !memcmp(file, before, 572), "nothing is no poured row");
     uint8_t gauges[PATHPETAL_GAUGES_LENGTH] = {0};
     expect(is(pathpetal_place_gauge(NULL, 0, gauges, sizeof gauges, 1), 12, 0, 0) &&
            is(pathpetal_feed_gauges(NULL, 0, NULL, 0), 12, 0, 0), "no bytes are no file to place or to feed gauges");
-    expect(is(pathpetal_place_gauge(file, 536, NULL, 0, 1), 12, 0, 0) &&
-           is(pathpetal_feed_gauges(file, 536, NULL, 0), 12, 0, 0) &&
+    expect(is(pathpetal_place_gauge(file, 572, NULL, 0, 1), 12, 0, 0) &&
+           is(pathpetal_feed_gauges(file, 572, NULL, 0), 12, 0, 0) &&
            is(pathpetal_read_gauges(NULL, 0, NULL, 0), 12, 0, 0), "no bytes are no gauges");
     expect(is(pathpetal_read_gauges(gauges, sizeof gauges, NULL, 0), 15, 0, 0), "nothing is no room for readings");
 }
@@ -1354,7 +1611,7 @@ static void gauges_beside(void)
     static struct call c;
     static const int64_t due[12] = {3, 10, 3, 2, 9, 17, 3, 6, 2, 1, 9, 9};
     static const int32_t fed[10] = {-1, 0, 5, -3, -1, 2, 7, -2, 0, 3};
-    uint8_t gauges[PATHPETAL_GAUGES_LENGTH] = {0}, *file = c.string[BYTES].at, before[536];
+    uint8_t gauges[PATHPETAL_GAUGES_LENGTH] = {0}, *file = c.string[BYTES].at, before[572];
     int64_t readings[PATHPETAL_READINGS];
     expect(PATHPETAL_GAUGES_LENGTH == 512 && PATHPETAL_READINGS == 48, "the lengths of gauges and of readings");
     expect(PATHPETAL_NINTH_GAUGE == 20 && PATHPETAL_OFF_CHANNEL == 21 && PATHPETAL_GAUGE_FULL == 30,
@@ -1363,10 +1620,10 @@ static void gauges_beside(void)
     expect(is(compare(MAKE, &c), 0, 0, 0), "a channel for gauges");
     for (size_t i = 0; i < 10; i++) {
         if (i == 0 || i == 4)
-            expect(is(pathpetal_place_gauge(file, 536, gauges, 512, 3), 0, 0, i == 0 ? 1 : 2), "a gauge at cell 3");
+            expect(is(pathpetal_place_gauge(file, 572, gauges, 512, 3), 0, 0, i == 0 ? 1 : 2), "a gauge at cell 3");
         set_entry(&c, 8, ROW_e, 2, fed[i]);
-        memcpy(before, file, 536);
-        expect(is(pathpetal_feed_gauges(file, 536, gauges, 512), 0, 0, 0) && !memcmp(file, before, 536),
+        memcpy(before, file, 572);
+        expect(is(pathpetal_feed_gauges(file, 572, gauges, 512), 0, 0, 0) && !memcmp(file, before, 572),
                "gauges are fed and the file stays");
     }
     expect(is(pathpetal_read_gauges(gauges, 512, readings, 48), 0, 0, 0) && !memcmp(readings, due, sizeof due),
@@ -1388,31 +1645,34 @@ static void long_strings(void)
     }
     even(&c, 8, 1000, 7, 10);
     compare(MAKE, &c);
-    memcpy(file, c.string[BYTES].at, 536);
+    memcpy(file, c.string[BYTES].at, 572);
     const uint8_t *row = c.string[DEPTHS].at, *bytes = c.string[BYTES].at;
-    expect(is(pathpetal_check(file, over + 536), 12, 0, 0), "a file 4 GiB too long is checked");
-    expect(is(pathpetal_filter(file, over + 536), 12, 0, 0), "a file 4 GiB too long is filtered");
-    expect(is(pathpetal_run(file, over + 536, 1), 12, 0, 0), "a file 4 GiB too long is run");
-    expect(is(pathpetal_step(file, over + 536, row, 32), 12, 0, 0), "a file 4 GiB too long is stepped");
-    expect(!memcmp(file, bytes, 536), "it stays as it was");
-    expect(is(pathpetal_step(c.string[BYTES].at, 536, file, over + 32), 1, 0, 0), "a poured row 4 GiB too long");
-    expect(is(pathpetal_make(8, 1000, 20, 10, file, over + 32, row, 32, row, 32, c.string[BYTES].at, 536), 1, 0, 0) &&
-           is(pathpetal_make(8, 1000, 20, 10, row, 32, file, over + 32, row, 32, c.string[BYTES].at, 536), 1, 0, 0) &&
-           is(pathpetal_make(8, 1000, 20, 10, row, 32, row, 32, file, over + 32, c.string[BYTES].at, 536), 1, 0, 0),
-           "make's rows 4 GiB too long");
-    expect(is(pathpetal_make(8, 1000, 20, 10, row, 32, row, 32, row, 32, file, over + 536), 15, 0, 0) &&
-           !memcmp(file, bytes, 536), "make into a buffer 4 GiB too long");
+    expect(is(pathpetal_check(file, over + 572), 12, 0, 0), "a file 4 GiB too long is checked");
+    expect(is(pathpetal_filter(file, over + 572), 12, 0, 0), "a file 4 GiB too long is filtered");
+    expect(is(pathpetal_run(file, over + 572, 1), 12, 0, 0), "a file 4 GiB too long is run");
+    expect(is(pathpetal_step(file, over + 572, row, 32), 12, 0, 0), "a file 4 GiB too long is stepped");
+    expect(!memcmp(file, bytes, 572), "it stays as it was");
+    expect(is(pathpetal_step(c.string[BYTES].at, 572, file, over + 32), 1, 0, 0), "a poured row 4 GiB too long");
+    for (int i = 0; i < MADE_ROWS; i++) {
+        const uint8_t *rows[MADE_ROWS] = {row, row, row, row};
+        size_t len[MADE_ROWS] = {32, 32, 32, 32};
+        rows[i] = file, len[i] = over + 32;
+        expect(is(pathpetal_make(8, 1000, 20, 10, rows[0], len[0], rows[1], len[1], rows[2], len[2], rows[3], len[3],
+                                 c.string[BYTES].at, 572), 1, 0, 0), "a row of make 4 GiB too long");
+    }
+    expect(is(pathpetal_make(8, 1000, 20, 10, row, 32, row, 32, row, 32, row, 32, file, over + 572), 15, 0, 0) &&
+           !memcmp(file, bytes, 572), "make into a buffer 4 GiB too long");
     uint8_t gauges[PATHPETAL_GAUGES_LENGTH] = {0};
     int64_t readings[PATHPETAL_READINGS];
-    expect(is(pathpetal_place_gauge(file, over + 536, gauges, 512, 1), 12, 0, 0) &&
-           is(pathpetal_feed_gauges(file, over + 536, gauges, 512), 12, 0, 0) && !memcmp(file, bytes, 536),
+    expect(is(pathpetal_place_gauge(file, over + 572, gauges, 512, 1), 12, 0, 0) &&
+           is(pathpetal_feed_gauges(file, over + 572, gauges, 512), 12, 0, 0) && !memcmp(file, bytes, 572),
            "gauges of a file 4 GiB too long");
-    memset(file, 0, 536);
-    expect(is(pathpetal_place_gauge(bytes, 536, file, over + 512, 1), 12, 0, 0) &&
-           is(pathpetal_feed_gauges(bytes, 536, file, over + 512), 12, 0, 0) &&
+    memset(file, 0, 572);
+    expect(is(pathpetal_place_gauge(bytes, 572, file, over + 512, 1), 12, 0, 0) &&
+           is(pathpetal_feed_gauges(bytes, 572, file, over + 512), 12, 0, 0) &&
            is(pathpetal_read_gauges(file, over + 512, readings, 48), 12, 0, 0), "gauges 4 GiB too long");
-    expect(is(pathpetal_place_gauge(bytes, 536, gauges, 512, (1ull << 32) + 1), 21, 0, 0) &&
-           is(pathpetal_place_gauge(bytes, 536, gauges, 512, 1ull << 63), 21, 0, 0), "a cell 2^32 too far");
+    expect(is(pathpetal_place_gauge(bytes, 572, gauges, 512, (1ull << 32) + 1), 21, 0, 0) &&
+           is(pathpetal_place_gauge(bytes, 572, gauges, 512, 1ull << 63), 21, 0, 0), "a cell 2^32 too far");
     munmap(file, size);
 }
 
@@ -1423,7 +1683,7 @@ static bool due(enum kind kind, int number, int turn)
     bool stepped = kind == STEP || kind == RUN;
     if (turn == 0)
         switch (number) {
-        case 0: case 1: case 2: case 4: case 5: case 26: case 31: case 32: case 33: return true;
+        case 0: case 1: case 2: case 4: case 5: case 26: case 31: case 32: case 33: case 38: return true;
         case 11: return kind == STEP || kind == FILTER;
         case 12: case 13: case 14: case 34: case 35: case 36: return kind != MAKE;
         case 15: return kind == MAKE;
@@ -1498,6 +1758,26 @@ static void starts_table(void)
     }
 }
 
+static void damping_table(void)
+{
+    char what[80];
+    puts("damped channels, by call: did something, of these otherwise without damping | refused at a stage, of these");
+    for (enum kind kind = STEP; kind < KINDS; kind++) {
+        printf("%-6s %7ld %7ld | %7ld %7ld\n", names[kind], damped[kind][0], by_damping[kind][0], damped[kind][1],
+               by_damping[kind][1]);
+        snprintf(what, sizeof what, "the damping told in a hundred calls of %s", names[kind]);
+        expect(by_damping[kind][0] >= 100, what);
+        snprintf(what, sizeof what, "the damping told in ten refusals of %s", names[kind]);
+        expect(by_damping[kind][1] >= (kind == STEP || kind == RUN ? 10 : 0), what);
+    }
+    fputs("halves of damping * u / 1000 in makes, beside an even and an odd number:", stdout);
+    for (int below = 0; below < 2; below++) {
+        printf(" %s zero %ld %ld", below ? "below" : "above", damped_halves[below][0], damped_halves[below][1]);
+        expect(damped_halves[below][0] >= 50 && damped_halves[below][1] >= 50, "halves that the damping takes");
+    }
+    puts("");
+}
+
 static void table(void)
 {
     char what[80];
@@ -1531,6 +1811,7 @@ static void table(void)
     puts("");
     places_table();
     starts_table();
+    damping_table();
     for (int i = 0; i < EVENTS; i++) {
         printf("%s: %ld\n", event_names[i], events[i]);
         expect(events[i] > 0, event_names[i]);
@@ -1546,7 +1827,8 @@ int main(void)
     sigaction(SIGSEGV, &on_touch, NULL);
     sigaction(SIGBUS, &on_touch, NULL);
     arenas();
-    rare_channels();
+    rare_channels(rares, sizeof rares / sizeof *rares, false);
+    rare_channels(damped_rares, sizeof damped_rares / sizeof *damped_rares, true);
     seed(20260101);
     readers();
     known();
@@ -1555,6 +1837,11 @@ int main(void)
     known_time_steps();
     known_deepest_cell();
     known_time_step_order();
+    known_damping();
+    known_dampings();
+    known_damping_order();
+    known_beginnings();
+    known_editions();
     known_first_steps();
     nothing_lent();
     long_strings();
