@@ -51,13 +51,13 @@ class Walk:
 
 
 class Channel:
-    """N cells of width X mm and depths h mm (one number: the same everywhere), time step T ms; e in µm, u in µm/s. Its
-    file says that so many steps are accepted."""
+    """N cells of width X mm and depths h mm (one number: the same everywhere), time step T ms; e in µm, u in µm/s, damping
+    in thousandths per second. Its file says that so many steps are accepted."""
 
-    def __init__(self, drive, X, T, h, e, u=None, wanted=1000000, accepted=0):
+    def __init__(self, drive, X, T, h, e, u=None, wanted=1000000, accepted=0, damping=None):
         self.drive, self.N, self.X, self.T = drive, len(e), X, T
         self.h = [h] * self.N if isinstance(h, int) else h
-        rows = [self.h, e, u or [0] * self.N]
+        rows = [self.h, e, u or [0] * self.N, damping or [0] * self.N]
         drive.ask(f"make {self.N} {X} {T} {wanted} {accepted}\n" + "\n".join(" ".join(map(str, row)) for row in rows))
         self.made = drive.number("made")
         drive.refused += self.made != 0

@@ -1,7 +1,7 @@
 /* Steps channels through pathpetal.h as standard input asks, one command a line, and prints what becomes of them.
 
-     make N X T WANTED ACCEPTED, then a line each of N depths, heights, velocities   prints 'made NUMBER'; the file is
-                               that of a new channel, but says that ACCEPTED steps are accepted
+     make N X T WANTED ACCEPTED, then a line each of N depths, heights, velocities, dampings   prints 'made NUMBER'; the
+                               file is that of a new channel, but says that ACCEPTED steps are accepted
      walk STEPS EVERY FILTER   takes STEPS steps with nothing poured, and a filter pass after every FILTER-th (none
                                once the channel is complete: it would be refused); prints 'e' and the heights after
                                every EVERY-th (0: never), then 'walked STEPS NUMBER STAGE' and how many steps took
@@ -18,7 +18,7 @@
 #include <stdlib.h>
 #include <string.h>
 
-enum { CELLS = 256, MOST = 24 + 64 * CELLS };
+enum { CELLS = 256, MOST = 28 + 68 * CELLS };
 
 static uint8_t file[MOST], nothing[4 * CELLS];
 static size_t cells;
@@ -52,7 +52,7 @@ static void take_row(uint8_t *row)
 
 static void make(void)
 {
-    static uint8_t depths[4 * CELLS], heights[4 * CELLS], velocities[4 * CELLS];
+    static uint8_t depths[4 * CELLS], heights[4 * CELLS], velocities[4 * CELLS], dampings[4 * CELLS];
     long long n = take(), width = take(), step = take(), wanted = take(), accepted = take();
     if (n < 1 || n > CELLS)
         fail("too many cells");
@@ -60,8 +60,10 @@ static void make(void)
     take_row(depths);
     take_row(heights);
     take_row(velocities);
+    take_row(dampings);
     uint64_t answer = pathpetal_make(cells, (uint64_t)width, (uint64_t)step, (uint64_t)wanted, depths, 4 * cells,
-                                     heights, 4 * cells, velocities, 4 * cells, file, pathpetal_length(cells));
+                                     heights, 4 * cells, velocities, 4 * cells, dampings, 4 * cells, file,
+                                     pathpetal_length(cells));
     put(file + 16, accepted); /* the file's fifth count */
     printf("made %u\n", pathpetal_number(answer));
 }

@@ -416,7 +416,7 @@ def group(x, middle, half_width, k, height):
     return height * math.cos(k * (x - middle)) * math.exp(-((x - middle) / half_width) ** 2)
 
 
-def wash(drive, N, X, T, h, period, height, seconds, filter):
+def wash(drive, N, X, T, h, period, height, seconds, filter, damping=None):
     """A group of waves of that period sets off to the right at a third of the channel: the walk, its start, and the highest
     water at the far wall with its time."""
     depth = h / 1000
@@ -428,7 +428,8 @@ def wash(drive, N, X, T, h, period, height, seconds, filter):
     length = N * X / 1000
     start = [group(x, length / 3, 12, k, height) for x in places]
     steps = int(1000 * seconds / T)
-    channel = Channel(drive, X, T, h, whole(1e6 * v for v in start), whole(1e6 * v * flow for v in start), steps)
+    channel = Channel(drive, X, T, h, whole(1e6 * v for v in start), whole(1e6 * v * flow for v in start), steps,
+                      damping=damping)
     walk = channel.walk(steps, 1, filter)
     wall = [at_wall(row) / 1e6 for row in walk.rows]
     best = max(range(len(wall)), key=lambda n: wall[n])

@@ -45,6 +45,14 @@ def on_grid(k, h, x):
     return math.sqrt(G * slope * flux / (1 - ALPHA * h ** 2 * bend))
 
 
+def damped(k, h, x, damping):
+    """The two rates, per second, at which a wave of number k changes in water of depth h that is damped everywhere by so much
+    per second: y' = rate y. On cells of width x, exact in time."""
+    half = damping / 2 / (1 - ALPHA * h ** 2 * 4 * math.sin(k * x / 2) ** 2 / x ** 2)
+    root = cmath.sqrt(half ** 2 - on_grid(k, h, x) ** 2)
+    return -half + root, -half - root
+
+
 # Time weights of a channel's first step, of its second and, by (3.56) and (3.69), of every later one: the prediction's in parts of
 # 12, the corrections' in parts of 24, the trial's first.
 LADDER = (((12, 0, 0), (12, 12, 0, 0)), ((18, -6, 0), (10, 16, -2, 0)), ((23, -16, 5), (9, 19, -5, 1)))
@@ -144,6 +152,61 @@ class Solitary:
 
     def velocity(self, x):
         return self.A / math.cosh(self.B * x) ** 2
+
+
+def group_speed(k, h):
+    return (nwogu(k + 1e-5, h) - nwogu(k, h)) / 1e-5
+
+
+def solve_five(mid, near, far, side):
+    """The unknowns of a system of five diagonals, the outer ones of one number each."""
+    n, mid, low, up, side = len(mid), mid[:], [near] * len(mid), [near] * len(mid), side[:]
+    for i in range(n):
+        if i + 1 < n:
+            f = low[i + 1] / mid[i]
+            mid[i + 1] -= f * up[i]
+            up[i + 1] -= f * far
+            side[i + 1] -= f * side[i]
+        if i + 2 < n:
+            f = far / mid[i]
+            low[i + 2] -= f * up[i]
+            mid[i + 2] -= f * far
+            side[i + 2] -= f * side[i]
+    found = [0j] * (n + 2)
+    for i in range(n - 1, -1, -1):
+        found[i] = (side[i] - up[i] * found[i + 1] - far * found[i + 2]) / mid[i]
+    return found[:n]
+
+
+def sent_back(k, h, x, dampings):
+    """Share of a wave of number k that comes back, in depth h, from cells of width x with these dampings per second and a wall
+    behind them: Nwogu's linear equations, solved here for a piston that swings for ever, by second differences on half cells,
+    velocities at their ends. The waves of the two directions are told apart by the heights at two places of the open water."""
+    open_cells, d, omega = int(2 * math.pi / k / x) + 40, x / 2, nwogu(k, h)
+    cells = [0.0] * open_cells + dampings
+    n = 2 * len(cells)
+    own, flux, fall = ALPHA * (h / d) ** 2, ALPHA1 * (h / d) ** 2, G * h / d ** 2
+    near, far = omega ** 2 * own + fall * (1 - 4 * flux), fall * flux
+    mid = [omega ** 2 * (1 - 2 * own) + fall * (6 * flux - 2) + 0.5j * omega * (cells[(i - 1) // 2] + cells[i // 2])
+           for i in range(1, n)]
+    mid[0] -= far
+    mid[-1] -= far
+    u = [1] + solve_five(mid, near, far, [-near - 2 * far, -far] + [0] * (n - 3)) + [0]
+    through = [u[i] + flux * (u[i - 1] - 2 * u[i] + u[i + 1]) for i in range(1, n)]
+    apart = max(1, round(math.pi / 4 / (k * d)))  # half a quarter of a wave, in half cells
+    left, right = (through[i + 1] - through[i] for i in (open_cells - apart, open_cells + apart))
+    turn = cmath.exp(1j * k * d * apart)
+    return abs((right / turn - left * turn) / (left / turn - right * turn))
+
+
+def train_back(k, half_width, h, x, dampings):
+    """The same for a train of waves of number k below a bell of that half width: root of the share of its energy."""
+    back = whole = 0
+    for i in range(-6, 7):
+        one = k + i / 2 / half_width
+        weight = math.exp(-i * i / 8) / group_speed(one, h)
+        back, whole = back + weight * sent_back(one, h, x, dampings) ** 2, whole + weight
+    return math.sqrt(back / whole)
 
 
 def filter_factor(cells):

@@ -1,4 +1,4 @@
-"""validate.py [--quick] OUT COMMAND..: known answers and limits, through the driver that COMMAND starts.
+"""validate.py [--quick] OUT COMMAND..: known answers, limits and reeds, through the driver that COMMAND starts.
 Prints measured beside expected; without --quick also measures the limits and writes the pictures into OUT."""
 import os
 import sys
@@ -7,6 +7,7 @@ from channels import Drive
 from report import Report
 import known
 import limits
+import reeds
 
 
 def measure(report, check, *given):
@@ -24,13 +25,13 @@ def main():
     os.makedirs(out, exist_ok=True)
     drive, report = Drive(command), Report()
     print("each line: what, measured, expected, unit, how far apart")
-    for check in known.ALL:
+    for check in known.ALL + reeds.ALL:
         measure(report, check, drive, report, not quick, out)
     report.head("All of these")
     report.exact("no call was refused: every run took all its steps", drive.refused == 0,
                  f"{drive.refused} refused")
     if not quick:
-        for check in limits.ALL:
+        for check in limits.ALL + reeds.LIMITS:
             measure(report, check, drive, report, out)
     drive.close()
     print(f"\n{drive.steps} steps taken")
