@@ -66,27 +66,45 @@ static const char *other_file(const struct channel *channel)
     return "take a fresh copy of the file, or make it again from its survey";
 }
 
+/* The length is that of twelve counts and six rows. */
+bool is_edition_1(const struct channel *channel)
+{
+    size_t cells = channel->length >= 48 ? pathpetal_cells(channel->bytes) : 0;
+    return cells >= CELLS_LEAST && cells <= CELLS_MOST && pathpetal_word(channel->bytes) == 1 &&
+           channel->length == 24 + 64 * cells;
+}
+
+/* Says why the library refuses a file, and what to mend. */
+static void say_refused(const char *path, const struct channel *channel, uint64_t answer)
+{
+    unsigned number = pathpetal_number(answer);
+    bool late = number == PATHPETAL_TIME_STEP;
+    struct rows rows = late || pathpetal_place(answer) ? rows_of(channel->bytes) : (struct rows){0};
+    if (is_edition_1(channel)) {
+        say("%s: refused, number %u: it is a channel file of edition 1, made before channels had damping, and this "
+            "program does not read it", path, number);
+        say("to mend: make the channel again from its survey; this file stays as it is");
+        return;
+    }
+    say("%s: refused, number %u%s: %s%s", path, number, refusal_place(answer).text, refusal_words(number),
+        refusal_found(answer, &rows).text);
+    if (late)
+        say_time_step(&rows, false);
+    else
+        say("to mend: %s", other_file(channel));
+}
+
 enum status channel_read(const char *path, struct channel *channel)
 {
     uint64_t answer;
-    unsigned number;
     enum status status = channel_bytes(path, channel);
     if (status != STATUS_DONE)
         return status;
     answer = pathpetal_check(channel->bytes, channel->length);
-    number = pathpetal_number(answer);
-    if (number != PATHPETAL_DONE) {
-        bool late = number == PATHPETAL_TIME_STEP;
-        struct rows rows = late || pathpetal_place(answer) ? rows_of(channel->bytes) : (struct rows){0};
-        say("%s: refused, number %u%s: %s%s", path, number, refusal_place(answer).text, refusal_words(number),
-            refusal_found(answer, &rows).text);
-        if (late)
-            say_time_step(&rows, false);
-        else
-            say("to mend: %s", other_file(channel));
-        return STATUS_REFUSED;
-    }
-    return STATUS_DONE;
+    if (pathpetal_number(answer) == PATHPETAL_DONE)
+        return STATUS_DONE;
+    say_refused(path, channel, answer);
+    return STATUS_REFUSED;
 }
 
 struct standing standing(const uint8_t *file)

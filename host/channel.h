@@ -32,6 +32,9 @@ enum status channel_bytes(const char *path, struct channel *channel);
 /* Reads a channel file that the library takes; else says why it is refused, and in which cell. */
 enum status channel_read(const char *path, struct channel *channel);
 
+/* Whether these are the bytes of a channel file of edition 1, which has no damping and which the library refuses. */
+bool is_edition_1(const struct channel *channel);
+
 /* "complete: all 6,000 steps accepted" or "open: 5,400 of 6,000 steps accepted" */
 struct standing {
     char text[192];

@@ -350,13 +350,14 @@ static enum status take_names(struct csv *csv)
     return names_differ(csv);
 }
 
-/* Refuses a channel file, which is easily named in the place of a table. */
+/* Refuses a channel file, of either edition, which is easily named in the place of a table. */
 static enum status no_channel(struct csv *csv)
 {
     enum status status = STATUS_DONE;
     while (status == STATUS_DONE && csv->length < 4 && !csv->ended)
         status = read_on(csv);
-    csv->channel = csv->length >= 4 && memcmp(csv->text, "\1\0\0\0", 4) == 0;
+    csv->channel = csv->length >= 4 &&
+                   (memcmp(csv->text, "\1\0\0\0", 4) == 0 || memcmp(csv->text, "\2\0\0\0", 4) == 0);
     if (status != STATUS_DONE || !csv->channel)
         return status;
     say("%s: is a channel file and no table", csv->path);

@@ -36,9 +36,10 @@ static const char make_help[] =
     "  --replace       write over START if it is there\n"
     "\n"
     "Columns, by name: depth_mm (1 to 20,000); height_um above still water and velocity_um_s to the\n"
-    "right (each within 20,000,000; 0 where left out); cell (counts 1, 2, 3, where given). Whole\n"
-    "numbers only. 8 to 256 rows. Lines that begin with # and blank lines are passed over.\n"
-    "Nothing is written if anything is wrong.\n" STATUSES;
+    "right (each within 20,000,000; 0 where left out); damping_thousandths_s, how quickly the cell\n"
+    "slows the water down, as reeds do, in thousandths per second (0 to 10,000; 0, not at all, where\n"
+    "left out); cell (counts 1, 2, 3, where given). Whole numbers only. 8 to 256 rows. Lines that\n"
+    "begin with # and blank lines are passed over. Nothing is written if anything is wrong.\n" STATUSES;
 
 static const char run_help[] =
     "pathpetal run START -o END [options]\n"
@@ -70,7 +71,8 @@ static const char show_help[] =
     "record that is whole also the waves at each staff, by the proved counts of the heights after every\n"
     "step, whatever --every was.\n"
     "\n"
-    "  --svg PICTURE.svg   bottom and surface of the channel, or the heights at each staff over time\n"
+    "  --svg PICTURE.svg   bottom, surface and damping of the channel, or the heights at each staff over\n"
+    "                      time\n"
     "  --staff             the file is a staff record\n"
     "  --replace           write over PICTURE.svg if it is there\n" STATUSES;
 

@@ -14,13 +14,13 @@ static const char usage[] = "pathpetal make SURVEY.csv -o START --width-mm MM --
 /* A survey: rows of numbers as the library takes them, and the line on which each cell stands. */
 struct survey {
     size_t cells;
-    uint8_t depths[4 * CELLS_MOST], heights[4 * CELLS_MOST], velocities[4 * CELLS_MOST];
+    uint8_t depths[4 * CELLS_MOST], heights[4 * CELLS_MOST], velocities[4 * CELLS_MOST], dampings[4 * CELLS_MOST];
     unsigned long line[CELLS_MOST];
 };
 
 /* Where a survey's columns stand; -1 for one that is not there. */
 struct columns {
-    long cell, depth, height, velocity;
+    long cell, depth, height, velocity, damping;
 };
 
 static bool begins(const char *text, const char *with)
@@ -37,6 +37,13 @@ static bool ends(const char *text, const char *with)
     return length >= tail && strcmp(text + length - tail, with) == 0;
 }
 
+/* Whether a column is one of these. */
+static bool is_used(const struct columns *columns, long at)
+{
+    return at == columns->cell || at == columns->depth || at == columns->height || at == columns->velocity ||
+           at == columns->damping;
+}
+
 /* Finds the columns by name. A name that is nearly one of them is refused and not passed over: its numbers would be
    in another unit, or be missed. */
 static enum status find_columns(const struct csv *csv, struct columns *columns)
@@ -44,16 +51,17 @@ static enum status find_columns(const struct csv *csv, struct columns *columns)
     *columns = (struct columns){.cell = csv_column(csv, "cell"),
                                 .depth = csv_column(csv, "depth_mm"),
                                 .height = csv_column(csv, "height_um"),
-                                .velocity = csv_column(csv, "velocity_um_s")};
+                                .velocity = csv_column(csv, "velocity_um_s"),
+                                .damping = csv_column(csv, "damping_thousandths_s")};
     for (size_t k = 0; k < csv->columns; k++) {
         const char *name = csv->names[k];
         long at = (long)k;
-        if (at == columns->cell || at == columns->depth || at == columns->height || at == columns->velocity)
+        if (is_used(columns, at))
             continue;
-        if (begins(name, "depth") || begins(name, "height") || begins(name, "velocity") || ends(name, "_um") ||
-            ends(name, "_um_s"))
-            return csv_wrong(csv, at, "is not a name of a survey; the names are depth_mm, height_um, velocity_um_s "
-                                      "and cell, in these units");
+        if (begins(name, "depth") || begins(name, "height") || begins(name, "velocity") || begins(name, "damp") ||
+            ends(name, "_um") || ends(name, "_um_s") || ends(name, "_thousandths_s"))
+            return csv_wrong(csv, at, "is not a name of a survey; the names are depth_mm, height_um, velocity_um_s, "
+                                      "damping_thousandths_s and cell, in these units");
     }
     if (columns->depth < 0)
         return csv_wrong(csv, -1, "has no column depth_mm");
@@ -104,6 +112,8 @@ static enum status take_row(const struct csv *csv, const struct columns *columns
     if (status == STATUS_DONE)
         status = take_optional(csv, columns->velocity, PATHPETAL_BAD_VELOCITY, survey->velocities + 4 * cell);
     if (status == STATUS_DONE)
+        status = take_optional(csv, columns->damping, PATHPETAL_BAD_DAMPING, survey->dampings + 4 * cell);
+    if (status == STATUS_DONE)
         survey->cells++;
     return status;
 }
@@ -133,6 +143,7 @@ static long column_of(const struct columns *columns, unsigned number)
 {
     switch (number) {
     case PATHPETAL_BAD_VELOCITY: return columns->velocity;
+    case PATHPETAL_BAD_DAMPING: return columns->damping;
     case PATHPETAL_BAD_HEIGHT:
     case PATHPETAL_DEPTH: return columns->height;
     default: return columns->depth;
@@ -143,8 +154,13 @@ static long column_of(const struct columns *columns, unsigned number)
 static void say_refusal(const struct csv *csv, const struct columns *columns, const struct survey *survey,
                         const int64_t counts[3], uint64_t answer)
 {
-    struct rows rows = {(uint64_t)counts[0], (uint64_t)counts[1], survey->cells,
-                        survey->depths, survey->heights, survey->velocities, NULL};
+    struct rows rows = {.width = (uint64_t)counts[0],
+                        .step = (uint64_t)counts[1],
+                        .cells = survey->cells,
+                        .depths = survey->depths,
+                        .heights = survey->heights,
+                        .velocities = survey->velocities,
+                        .dampings = survey->dampings};
     unsigned number = pathpetal_number(answer), place = pathpetal_place(answer);
     if (number == PATHPETAL_TIME_STEP)
         say("%s: refused, number %u: %s%s, on line %lu", csv->path, number, refusal_words(number),
@@ -165,11 +181,9 @@ static void say_refusal(const struct csv *csv, const struct columns *columns, co
 static void tell_unused(const struct csv *csv, const struct columns *columns)
 {
     struct text names = {0};
-    for (size_t k = 0; k < csv->columns; k++) {
-        long at = (long)k;
-        if (at != columns->cell && at != columns->depth && at != columns->height && at != columns->velocity)
+    for (size_t k = 0; k < csv->columns; k++)
+        if (!is_used(columns, (long)k))
             text_add(&names, "%s '%s'", names.length ? "," : "", SHOWN(csv->names[k]));
-    }
     if (names.length)
         tell("  not used:%s", names.at);
     free(names.at);
@@ -177,6 +191,8 @@ static void tell_unused(const struct csv *csv, const struct columns *columns)
         tell("  no column height_um: all heights are 0");
     if (columns->velocity < 0)
         tell("  no column velocity_um_s: all velocities are 0");
+    if (columns->damping < 0)
+        tell("  no column damping_thousandths_s: all dampings are 0");
 }
 
 static enum status make_file(const struct csv *csv, const struct columns *columns, const struct survey *survey,
@@ -186,7 +202,8 @@ static enum status make_file(const struct csv *csv, const struct columns *column
     uint8_t *file = room_for(length, 1);
     enum status status = STATUS_REFUSED;
     uint64_t answer = pathpetal_make(cells, (uint64_t)counts[0], (uint64_t)counts[1], (uint64_t)counts[2],
-                                     survey->depths, row, survey->heights, row, survey->velocities, row, file, length);
+                                     survey->depths, row, survey->heights, row, survey->velocities, row,
+                                     survey->dampings, row, file, length);
     if (pathpetal_number(answer) != PATHPETAL_DONE)
         say_refusal(csv, columns, survey, counts, answer);
     else

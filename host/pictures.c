@@ -1,7 +1,9 @@
 #include "pictures.h"
 #include "beside.h"
+#include "damping.h"
 #include "svg.h"
 
+#include <math.h>
 #include <stdio.h>
 #include <stdlib.h>
 #include <string.h>
@@ -11,7 +13,11 @@ enum {
     LEFT = 110, /* where panels begin and end across the sheet */
     RIGHT = 970,
     COLUMNS = RIGHT - LEFT,
-    STAFF_TALL = 130, /* of one staff's panel */
+    CHANNEL_TALL = 710, /* of a channel's sheet, */
+    DAMPING_TALL = 150, /* and what the panel of its damping adds */
+    REED_APART = 7,     /* between two reeds, */
+    REED_ABOVE = 12,    /* and how far they stand above the surface */
+    STAFF_TALL = 130,   /* of one staff's panel */
     STAFF_APART = 34
 };
 
@@ -106,9 +112,62 @@ static void surface_panel(struct text *svg, const struct axis *across, const uin
     frame(svg, across, &up);
 }
 
-/* Bottom and surface to one scale. */
+/* How reeds and the damping of cells are drawn: told apart from water and bottom by their strokes, not by colour. */
+static void damping_style(struct text *svg)
+{
+    text_add(svg, "<style>\n"
+                  ".reeds { stroke: #2f5d1e; stroke-width: 1.3; fill: none; }\n"
+                  ".damping { fill: url(#strokes); stroke: #2f5d1e; stroke-width: 1.2; }\n"
+                  "</style>\n"
+                  "<pattern id=\"strokes\" width=\"%d\" height=\"%d\" patternUnits=\"userSpaceOnUse\">"
+                  "<path class=\"reeds\" d=\"M3,0 V%d\"/></pattern>\n",
+             REED_APART, REED_APART, REED_APART);
+}
+
+/* Reeds where cells are damped, at least one in each stretch, from the foot of the panel, which the bottom then covers,
+   to above the surface. */
+static void reeds(struct text *svg, const struct axis *across, const struct axis *up, const uint8_t *file)
+{
+    size_t cells = pathpetal_cells(file);
+    double wide = (across->end - across->start) / (double)cells; /* of a cell */
+    text_add(svg, "<path class=\"reeds\" d=\"");
+    for (struct stretch one = damped_from(file, 0); one.first < cells; one = damped_from(file, one.end)) {
+        double along = (double)(one.end - one.first), count = floor(along * wide / REED_APART);
+        count = count < 1 ? 1 : count;
+        for (double k = 0.5; k < count; k++) {
+            double place = (double)one.first + k * along / count; /* in cells from the left wall */
+            double top = on_axis(up, mm(pathpetal_height_um(file, (size_t)place)) / 1000.0) - REED_ABOVE;
+            text_add(svg, "M%.1f,%.1f V%.1f ", across->start + place * wide, up->start, top > up->end ? top : up->end);
+        }
+    }
+    text_add(svg, "\"/>\n");
+}
+
+/* The damping of each cell, as a bar. */
+static void damping_panel(struct text *svg, const struct axis *across, const uint8_t *file)
+{
+    size_t cells = pathpetal_cells(file);
+    double wide = pathpetal_width_mm(file) / 1000.0;
+    struct axis up = axis_for(0, pathpetal_damping(file, most_damped(file)), 780, 680, 4, true);
+    svg_panel(svg, across, &up, "Damping: how quickly each cell slows the water down, as reeds do", "thousandths per s",
+              "distance from the left wall (m)");
+    for (struct stretch one = damped_from(file, 0); one.first < cells; one = damped_from(file, one.end)) {
+        text_add(svg, "<polygon class=\"damping\" points=\"");
+        svg_point(svg, across, &up, (double)one.first * wide, 0);
+        for (size_t cell = one.first; cell < one.end; cell++) {
+            svg_point(svg, across, &up, (double)cell * wide, pathpetal_damping(file, cell));
+            svg_point(svg, across, &up, (double)(cell + 1) * wide, pathpetal_damping(file, cell));
+        }
+        svg_point(svg, across, &up, (double)one.end * wide, 0);
+        text_add(svg, "\"/>\n");
+    }
+    frame(svg, across, &up);
+}
+
+/* Bottom and surface to one scale, and where the cells are damped reeds. */
 static void bottom_panel(struct text *svg, const struct axis *across, const uint8_t *file)
 {
+    bool damped = is_damped(file);
     size_t cells = pathpetal_cells(file);
     double lowest = 0, highest = 0;
     struct axis up;
@@ -118,14 +177,18 @@ static void bottom_panel(struct text *svg, const struct axis *across, const uint
         lowest = height < lowest ? height : lowest;
         highest = height > highest ? height : highest;
     }
-    up = axis_for(lowest - (highest - lowest) / 25, highest, 630, 400, 7, true);
+    up = axis_for(lowest - (highest - lowest) / 25, damped ? highest + (highest - lowest) / 12 : highest, 630, 400, 7,
+                  true);
     svg_panel(svg, across, &up, "Bottom and surface, to one scale of height", "height (m)",
-              "distance from the left wall (m)");
+              damped ? NULL : "distance from the left wall (m)");
     text_add(svg, "<polygon class=\"water\" points=\"");
     surface_points(svg, across, &up, file, 0.001);
     svg_point(svg, across, &up, across->to, up.from);
     svg_point(svg, across, &up, across->from, up.from);
-    text_add(svg, "\"/>\n<polygon class=\"bottom\" points=\"");
+    text_add(svg, "\"/>\n");
+    if (damped)
+        reeds(svg, across, &up, file);
+    text_add(svg, "<polygon class=\"bottom\" points=\"");
     svg_point(svg, across, &up, across->from, -pathpetal_depth_mm(file, 0) / 1000.0);
     for (size_t cell = 0; cell < cells; cell++)
         svg_point(svg, across, &up, middle_of(file, cell), -pathpetal_depth_mm(file, cell) / 1000.0);
@@ -141,7 +204,7 @@ static void bottom_panel(struct text *svg, const struct axis *across, const uint
 }
 
 /* What the lines mean, under all panels. */
-static void key(struct text *svg, double y)
+static void key(struct text *svg, double y, bool damped)
 {
     text_add(svg, "<line class=\"surface\" x1=\"%d\" y1=\"%.1f\" x2=\"%d\" y2=\"%.1f\"/>\n", LEFT, y - 4, LEFT + 36,
              y - 4);
@@ -151,20 +214,33 @@ static void key(struct text *svg, double y)
     svg_words(svg, LEFT + 174, y, "", "still water");
     text_add(svg, "<rect class=\"bottom\" x=\"%d\" y=\"%.1f\" width=\"36\" height=\"12\"/>\n", LEFT + 280, y - 10);
     svg_words(svg, LEFT + 324, y, "", "bottom");
+    if (!damped)
+        return;
+    text_add(svg, "<path class=\"reeds\" d=\"");
+    for (int x = LEFT + 408; x <= LEFT + 440; x += REED_APART)
+        text_add(svg, "M%d,%.1f V%.1f ", x, y + 2, y - 10);
+    text_add(svg, "\"/>\n");
+    svg_words(svg, LEFT + 450, y, "", "damped cells (reeds)");
 }
 
 void draw_channel(struct text *svg, const char *name, const uint8_t *file, uint32_t rule)
 {
     double length = (double)pathpetal_cells(file) * pathpetal_width_mm(file) / 1000.0;
     struct axis across = axis_for(0, length, LEFT, RIGHT, 12, false);
+    bool damped = is_damped(file);
+    double tall = CHANNEL_TALL + (damped ? DAMPING_TALL : 0);
     char about[128];
     snprintf(about, sizeof about, "at %s s; water sum %s \xC2\xB5m",
              THOUSANDTHS((int64_t)pathpetal_accepted(file) * pathpetal_step_ms(file)), GROUPED(water_sum(file)));
-    svg_begin(svg, WIDTH, 710);
+    svg_begin(svg, WIDTH, tall);
+    if (damped)
+        damping_style(svg);
     head(svg, name, standing(file).text, pathpetal_complete(file), rule, about);
     surface_panel(svg, &across, file);
     bottom_panel(svg, &across, file);
-    key(svg, 698);
+    if (damped)
+        damping_panel(svg, &across, file);
+    key(svg, tall - 12, damped);
     svg_end(svg);
 }
 

@@ -23,7 +23,7 @@ static const struct {
                                                                "more often"},
     [PATHPETAL_COMPLETE] = {"all wanted steps are already taken", "nothing is left to do"},
     [PATHPETAL_LENGTH] = {"the file is cut short, too long, or no channel file", "take a fresh copy of the file"},
-    [PATHPETAL_EDITION] = {"it is not a channel file of edition 1", "name a file that pathpetal make has written"},
+    [PATHPETAL_EDITION] = {"it is not a channel file of edition 2", "name a file that pathpetal make has written"},
     [PATHPETAL_OFFSETS] = {"the file's rows do not stand where they must", "take a fresh copy of the file"},
     [PATHPETAL_BUFFER] = {"the room for the file has not its length", "tell who looks after the program"},
     [PATHPETAL_NINTH_GAUGE] = {"eight gauges are placed already", "tell who looks after the program"},
@@ -41,6 +41,9 @@ static const struct {
     [PATHPETAL_BAD_FLUX] = {"a flux is -10^15 to 10^15 um2/s", "take a fresh copy of the file"},
     [PATHPETAL_BAD_ACCELERATION] = {"an acceleration is -10^11 to 10^11 um/s2", "take a fresh copy of the file"},
     [PATHPETAL_BAD_POURED] = {"a poured amount is -1,000,000 to 1,000,000 um", "pour in or take out less in one step"},
+    [PATHPETAL_BAD_DAMPING] = {"a damping is 0 to 10,000 thousandths per second",
+                               "correct that damping; it may have been typed in another unit than thousandths per "
+                               "second"},
 };
 
 static bool has_words(unsigned number)
@@ -61,9 +64,15 @@ const char *refusal_mend(unsigned number)
 struct rows rows_of(const uint8_t *file)
 {
     size_t cells = pathpetal_cells(file);
-    const uint8_t *first = file + 48;
-    return (struct rows){pathpetal_width_mm(file), pathpetal_step_ms(file), cells,
-                         first, first + 4 * cells, first + 8 * cells, first + 12 * cells};
+    const uint8_t *first = file + 52;
+    return (struct rows){.width = pathpetal_width_mm(file),
+                         .step = pathpetal_step_ms(file),
+                         .cells = cells,
+                         .depths = first,
+                         .heights = first + 4 * cells,
+                         .velocities = first + 8 * cells,
+                         .reduced = first + 12 * cells,
+                         .dampings = file + pathpetal_length(cells) - 4 * cells};
 }
 
 size_t deepest_cell(const struct rows *rows)
@@ -123,6 +132,7 @@ struct standing refusal_found(uint64_t answer, const struct rows *rows)
     case PATHPETAL_BAD_HEIGHT: row = rows->heights; break;
     case PATHPETAL_BAD_VELOCITY: row = rows->velocities; break;
     case PATHPETAL_BAD_REDUCED: row = rows->reduced; break;
+    case PATHPETAL_BAD_DAMPING: row = rows->dampings; break;
     case PATHPETAL_BAD_FLUX:
     case PATHPETAL_BAD_ACCELERATION:
         snprintf(out.text, sizeof out.text, ", but not in all three levels here");

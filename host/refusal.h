@@ -13,7 +13,7 @@ const char *refusal_mend(unsigned number);
 struct rows {
     uint64_t width, step;
     size_t cells;
-    const uint8_t *depths, *heights, *velocities, *reduced;
+    const uint8_t *depths, *heights, *velocities, *dampings, *reduced;
 };
 
 /* Those of a file that the library takes, or refuses with a place or for its time step. */

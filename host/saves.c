@@ -26,6 +26,10 @@ static enum status know(struct save *save, const struct run_id *run, struct text
     status = channel_bytes(save->path, &save->channel);
     if (status != STATUS_DONE)
         return status;
+    if (is_edition_1(&save->channel)) {
+        text_add(how, "it is a channel file of edition 1");
+        return STATUS_DONE;
+    }
     sum = sum_of(save->channel.bytes, save->channel.length);
     found = beside_find(&save->beside, &sum);
     if (!found || !same_run(&save->beside.run, run, how) ||

@@ -1,6 +1,7 @@
 /* show.c: a channel file or a staff record in a few lines, and as a picture. */
 #include "beside.h"
 #include "commands.h"
+#include "damping.h"
 #include "options.h"
 #include "pictures.h"
 #include "whole.h"
@@ -20,6 +21,7 @@ static void tell_channel(const char *path, const struct channel *channel, uint32
 {
     const uint8_t *file = channel->bytes;
     uint32_t cells = pathpetal_cells(file), step_ms = pathpetal_step_ms(file);
+    struct text damping = {0};
     size_t low = 0, high = 0;
     for (size_t cell = 1; cell < cells; cell++) {
         if (pathpetal_height_um(file, cell) < pathpetal_height_um(file, low))
@@ -35,6 +37,9 @@ static void tell_channel(const char *path, const struct channel *channel, uint32
          THOUSANDTHS((int64_t)pathpetal_wanted(file) * step_ms), GROUPED(step_ms));
     tell("  channel        %s cells of %s mm: %s m", GROUPED(cells), GROUPED(pathpetal_width_mm(file)),
          THOUSANDTHS((int64_t)cells * pathpetal_width_mm(file)));
+    add_damping(&damping, file);
+    tell("  damping        %s", damping.at);
+    free(damping.at);
     tell("  lowest height  %s um (%s mm), first in cell %zu", GROUPED(pathpetal_height_um(file, low)),
          in_mm(pathpetal_height_um(file, low)).text, low + 1);
     tell("  highest height %s um (%s mm), first in cell %zu", GROUPED(pathpetal_height_um(file, high)),

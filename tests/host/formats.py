@@ -5,15 +5,42 @@ from fractions import Fraction
 RULE = 3  # that steps are taken by; what says none is of rule 1
 
 
+def length(cells):
+    """of a channel file"""
+    return 28 + 68 * cells
+
+
+def starts(cells):
+    """where its seven rows start: depths, heights, velocities, reduced velocities, fluxes, accelerations, dampings"""
+    return [52 + 4 * cells * k for k in range(5)] + [28 + 40 * cells, 28 + 64 * cells]
+
+
 def counts(data):
     """cells, accepted, wanted of a channel file's bytes"""
     return struct.unpack_from("<6I", data)[1], *struct.unpack_from("<2I", data, 16)
 
 
+def cell_row(data, k):
+    """one of the rows that have 4 bytes a cell"""
+    cells = counts(data)[0]
+    return struct.unpack_from(f"<{cells}i", data, starts(cells)[k])
+
+
 def heights(data):
     """the heights in a channel file's bytes"""
+    return cell_row(data, 1)
+
+
+def dampings(data):
+    """the dampings in a channel file's bytes"""
+    return cell_row(data, 6)
+
+
+def edition_1(data):
+    """the bytes of the same channel, without its damping, as a file of edition 1 had them"""
     cells = counts(data)[0]
-    return struct.unpack_from(f"<{cells}i", data, 48 + 4 * cells)
+    offsets = [start - 4 for start in starts(cells)[:6]]
+    return struct.pack("<I", 1) + data[4:24] + struct.pack("<6I", *offsets) + data[52:starts(cells)[6]]
 
 
 def sha(data):

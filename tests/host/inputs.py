@@ -3,7 +3,7 @@ import os, random, re, shutil, struct
 
 from common import (COUNTS, DONE, OPEN, OPTIONS, REFUSED, TOP, check, forget, from_shell, go, group, listing, read,
     start, taken, tested, write)
-from formats import counts
+from formats import cell_row, counts, edition_1, starts
 from steps import hasty_mend
 
 
@@ -14,9 +14,15 @@ def start_faults(begin):
            "truncated to half": (begin[:900], 12),
            "one byte more": (begin + b"\0", 12), "a million bytes": ((begin * 600)[:1000000], 12),
            "a million zeros": (bytes(1000000), 13),
-           "edition 2": (b"\2" + begin[1:], 13), "7 cells": (begin[:4] + b"\7\0\0\0" + begin[8:], 1),
+           "edition 3": (b"\3" + begin[1:], 13), "edition 0": (b"\0" + begin[1:], 13),
+           "edition 1 with the length of edition 2": (b"\1" + begin[1:], 13),
+           "edition 2 with the length of edition 1": (begin[:-4 * counts(begin)[0] - 4], 12),
+           "7 cells": (begin[:4] + b"\7\0\0\0" + begin[8:], 1),
+           "7 cells in 50 bytes": (begin[:4] + b"\7\0\0\0" + begin[8:50], 1),
            "2^31 cells": (begin[:4] + b"\0\0\0\x80" + begin[8:], 1),
-           "offsets": (begin[:24] + b"\x31" + begin[25:], 14), "width 0": (begin[:8] + bytes(4) + begin[12:], 2),
+           "offsets of edition 1": (begin[:24] + b"\x30" + begin[25:], 14),
+           "two rows in one place": (begin[:48] + begin[44:48] + begin[52:], 14),
+           "width 0": (begin[:8] + bytes(4) + begin[12:], 2),
            "more accepted than wanted": (begin[:16] + struct.pack("<I", 301) + begin[20:], 2),
            "a survey": (read("start.csv"), 12), "text": (b"hello\n" * 200, 13)}
     if len(read("start.csv")) >= 48:
@@ -27,7 +33,8 @@ def start_faults(begin):
                          "bad.check", "--checkpoint-every", 5),
                      ("show", "bad.channel", "--svg", "bad.svg"), ("check", "bad.channel")):
             before = listing()
-            go(*line, status=REFUSED, says=f"bad.channel: refused, number {number}: .*to mend: ",
+            words = "it is not a channel file of edition 2\n" if number == 13 else ""
+            go(*line, status=REFUSED, says=f"^pathpetal: bad.channel: refused, number {number}: {words}.*to mend: ",
                 name=f"{line[0]} {name}")
             check(listing() == before, f"{line[0]} {name}: something was written or changed")
     for path, words in (("folder", "folder: cannot be read: Is a directory"),
@@ -64,7 +71,8 @@ def start_faults(begin):
 CELL_ROWS = {31: (0, 0, 20001, "a depth is 1 to 20,000 mm"),
     32: (1, -20000001, 20000001, "a height is -20,000,000 to 20,000,000 um"),
     33: (2, -20000001, 20000001, "a velocity is -20,000,000 to 20,000,000 um/s"),
-    34: (3, -2000000001, 2000000001, "a reduced velocity is -2,000,000,000 to 2,000,000,000 um/s")}
+    34: (3, -2000000001, 2000000001, "a reduced velocity is -2,000,000,000 to 2,000,000,000 um/s"),
+    38: (6, -1, 10001, "a damping is 0 to 10,000 thousandths per second")}
 LEVELS = {35: (10 ** 15 + 1, "a flux is -10^15 to 10^15 um2/s"),
     36: (10 ** 11 + 1, "an acceleration is -10^11 to 10^11 um/s2")}
 
@@ -74,13 +82,11 @@ def bad_rows(begin):
     cells = counts(begin)[0]
 
     def changed(values):
-        """`begin` with other values: by row 0 to 5 and entry from 0."""
+        """`begin` with other values: by row 0 to 6 and entry from 0."""
         data = bytearray(begin)
         for (row, j), value in values.items():
-            if row < 4:
-                struct.pack_into("<i", data, 48 + 4 * (cells * row + j), value)
-            else:
-                struct.pack_into("<q", data, (48 + 16 * cells if row == 4 else 24 + 40 * cells) + 8 * j, value)
+            form, size = ("<q", 8) if row in (4, 5) else ("<i", 4)
+            struct.pack_into(form, data, starts(cells)[row] + size * j, value)
         return bytes(data)
 
     def tried(values, says, name):
@@ -105,15 +111,17 @@ def bad_rows(begin):
             ({6: -most, size + 1: most}, 7), ({size - 1: most, 2 * size: most}, size), ({5: most, 3: -most}, 4)):
             tried({(row, at): value for at, value in values.items()},
                 f"{number}, {place(j)}: {words}, but not in all three levels here", f"levels of row {row}: {values}")
-    depth, second, third = struct.unpack_from("<3i", begin, 48)
+    depth, second, third = cell_row(begin, 0)[:3]
     tried({(0, 8): 0, (1, 0): 20000001}, "31, in cell 9: a depth is 1 to 20,000 mm, not 0", "a depth before a height")
     tried({(3, 0): 2000000001, (2, 29): 20000001},
         "33, in cell 30: a velocity is -20,000,000 to 20,000,000 um/s, not 20,000,001", "33 before 34")
     tried({(5, 0): 10 ** 12, (4, 86): 10 ** 16},
         "35, at face 29, between cells 29 and 30: a flux is -10^15 to 10^15 um2/s, but not in all three levels here",
         "35 before 36")
-    tried({(1, 0): -1000 * depth + 999, (5, 89): 10 ** 12},
-        "36, in cell 30: an acceleration is -10^11 to 10^11 um/s2, but not in all three levels here", "36 before 4")
+    tried({(6, 0): -1, (5, 89): 10 ** 12},
+        "36, in cell 30: an acceleration is -10^11 to 10^11 um/s2, but not in all three levels here", "36 before 38")
+    tried({(1, 0): -1000 * depth + 999, (6, 29): 2147483647},
+        "38, in cell 30: a damping is 0 to 10,000 thousandths per second, not 2,147,483,647", "38 before 4")
     tried({(1, 0): -1000 * depth + 999},
         f"4, in cell 1: less than 1 mm of water is left: a depth of {depth:,} mm, a height of {999 - 1000 * depth:,} um",
         "a dry cell")
@@ -131,8 +139,7 @@ def long_steps(begin):
     def late(width, step, depths, heights=None, accepted=0):
         data = bytearray(begin)
         struct.pack_into("<3I", data, 8, width, step, accepted)
-        struct.pack_into(f"<{cells}i", data, 48, *depths)
-        struct.pack_into(f"<{cells}i", data, 48 + 4 * cells, *(heights or [0] * cells))
+        struct.pack_into(f"<{2 * cells}i", data, starts(cells)[0], *depths, *(heights or [0] * cells))
         return bytes(data)
 
     wanted = counts(begin)[2]
@@ -192,7 +199,8 @@ def other_files(begin, record):
             go(*line, status=REFUSED, says=f"^pathpetal: other: refused, number {number}: [^\n]*\npathpetal: {words}",
                 name=f"{line[0]} {name}")
             check(listing() == before, f"{line[0]} {name}: something was written")
-    for name, data in {"a channel": begin, "a channel cut short": begin[:100], "its first bytes": begin[:4]}.items():
+    for name, data in {"a channel": begin, "a channel cut short": begin[:100], "its first bytes": begin[:4],
+        "a channel of edition 1": edition_1(begin), "its first bytes, of edition 1": edition_1(begin)[:4]}.items():
         write("other", data)
         go("show", "--staff", "other", "--svg", "o.svg", status=REFUSED, name=f"show --staff {name}",
             says="^pathpetal: other: is a channel file and no table\npathpetal: to mend: leave out --staff to show a "
@@ -202,9 +210,9 @@ def other_files(begin, record):
             go(*line, status=REFUSED, says="^pathpetal: other: is a channel file and no table\n$",
                 name=f"{line[0]} {name} for a table")
     check(not any(os.path.exists(name) for name in ("o.svg", "o.channel", "o.csv")), "something was written")
-    from_shell("(printf '\\1'; sleep 0.2; printf '\\0\\0\\0.') ", "show", "--staff", "/dev/stdin", status=REFUSED,
+    from_shell("(printf '\\2'; sleep 0.2; printf '\\0\\0\\0.') ", "show", "--staff", "/dev/stdin", status=REFUSED,
         says="is a channel file")
-    for data in (b"\1", b"\1\0\0", b"\0\0\0\0\0", b"\2\0\0\0"):
+    for data in (b"\2", b"\2\0\0", b"\1\0\0", b"\0\0\0\0\0", b"\3\0\0\0"):
         write("other", data)
         go("show", "--staff", "other", status=REFUSED, says="other: line 1: ", name=f"show --staff {data!r}")
     forget("other")

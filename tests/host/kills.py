@@ -3,14 +3,16 @@ import os, random, re, signal, subprocess, time
 
 from common import (DONE, INTERRUPTED, check, end_is_true, forget, go, group, listing, parts_left, read, saved, start,
     taken, tested, write)
-from formats import Gauge, count_lines, counts, every_height, head_of, lines_of, sha, survey, up_to, whole_record
+from formats import (Gauge, count_lines, counts, dampings, every_height, head_of, lines_of, sha, survey, up_to,
+    whole_record)
 
 
 def long_channel():
-    """A channel, its table of poured water and its options for a run of some tenths of a second."""
+    """A channel with reeds, its table of poured water and its options for a run of some tenths of a second."""
     draw = random.Random(3)
-    write("long.csv", survey([(1500 + draw.randrange(200), draw.randrange(-15000, 15000)) for _ in range(48)],
-        "depth_mm,height_um"))
+    reeds = [max(0, 10 - j, j - 37) * 2 for j in range(48)]  # at both ends
+    write("long.csv", survey([(1500 + draw.randrange(200), draw.randrange(-15000, 15000), reed) for reed in reeds],
+        "depth_mm,height_um,damping_thousandths_s"))
     write("long.pour", "step,cell,amount_um\n" + "".join(
         f"{step},{draw.randrange(48) + 1},{draw.randrange(-200, 200)}\n" for step in range(1, 3000, 9)))
     go("make", "long.csv", "-o", "long.channel", "--width-mm", 1500, "--step-ms", 30, "--steps", 3000)
@@ -18,6 +20,7 @@ def long_channel():
     options = ("--filter-every", 40, "--pour", "long.pour", "--staff", ",".join(map(str, cells)), "--every", 10)
     go("run", "long.channel", "-o", "long.end", *options, "--record", "long.record")
     record = read("long.record")
+    check(dampings(read("long.end")) == tuple(reeds), "END has the damping of the survey")
     go("run", "long.channel", "-o", "each.end", *options[:-1], 1, "--record", "each.record")
     fed = every_height(read("each.record"))
     check(lines_of(record)[2].encode().startswith(count_lines(cells, fed)), "what its gauges counted")

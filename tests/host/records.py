@@ -187,8 +187,9 @@ def untrue_beside(begin, end, record):
         true = beside(run, known(channel, behind))
         untrue = {f"step {other}": (channel, summed(true.rsplit("sum", 1)[0].replace(f"at step {step}\n",
             f"at step {other}\n"))) for other in (0, step - 5, step - 1, step + 1)}
-        for what, data in (("cut", channel[:-1]), ("longer", channel + b"\0"), ("edition 2", b"\2" + channel[1:]),
-                           ("a depth of 0", channel[:48] + bytes(4) + channel[52:])):
+        for what, data in (("cut", channel[:-1]), ("longer", channel + b"\0"), ("edition 3", b"\3" + channel[1:]),
+                           ("a depth of 0", channel[:52] + bytes(4) + channel[56:]),
+                           ("a damping of -1", channel[:-4] + b"\xff" * 4)):
             untrue[what] = (data, beside(run, (data, *known(channel, behind)[1:])))
         for what, (data, says) in {**untrue, "nothing": (channel, true)}.items():
             for name, there in {path: data, path + ".run": says, **with_it}.items():

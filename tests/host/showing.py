@@ -195,7 +195,7 @@ def strange_names(begin, end, record):
             f"check {what}: not one line, or a character of the name is lost: {out!r}")
         plain("check", name, "--complete", status=OPEN, name=f"check {what}")
         out, _ = plain("show", name, "--svg", name + ".svg", status=DONE, name=f"show {what}")
-        check(out.count("\n") == 7, f"show {what}: seven lines: {out!r}")
+        check(out.count("\n") == 8, f"show {what}: eight lines: {out!r}")
         words = "".join(xml.fromstring(read(name + ".svg")).itertext())
         check(not re.search("[\0-\x09\x0b-\x1f\x7f-\x9f\u061c\u200e\u200f\u2028-\u202e\u2066-\u2069]", words),
             f"the picture of {what}: {words!r}")
@@ -286,7 +286,7 @@ def worked_example():
     os.mkdir("example")
     os.mkdir("bin")
     os.symlink(tested.program, "bin/pathpetal")
-    for name in ("survey.csv", "pour.csv"):
+    for name in ("survey.csv", "pour.csv", "reeds.csv"):
         shutil.copy(os.path.join(examples, name), "example")
     commands = re.findall(r"^    \$ (.*)\n((?:    (?!\$ ).*\n)*)", text, re.M)
     check(len(commands) >= 8, f"{len(commands)} commands")
@@ -299,7 +299,7 @@ def worked_example():
         path = os.path.join("example", name)
         check(os.path.exists(path) and read(path) == read(os.path.join(examples, name)),
             f"examples/{name} is what comes out")
-    check("start.channel" in os.listdir(examples), "the start file stands in examples/")
+    check({"start.channel", "reeds_start.channel"} <= set(os.listdir(examples)), "the start files stand in examples/")
     # the lines that the page shows of the record and of what stands beside END, with their sums shortened
     shown = text[text.index("### A record's lines"):text.index("### Signals")]
     for name, first in (("staff.csv", "    step,time_s"), ("end.channel.run", "    channel ")):

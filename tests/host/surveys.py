@@ -1,8 +1,8 @@
 """Surveys and counts, as pathpetal make takes or refuses them."""
-import os, random, re, struct
+import os, random, re
 
 from common import COUNTS, REFUSED, ROWS, USAGE, check, forget, go, group, listing, read, tested, write
-from formats import survey
+from formats import cell_row, dampings, length, survey
 from steps import ALLOWED, hasty_mend, longest
 
 
@@ -11,8 +11,8 @@ def good_surveys():
     write("plain.csv", survey(ROWS))
     go("make", "plain.csv", "-o", "reference.channel", *COUNTS, tells="30 cells of 1,000 mm, 300 steps of 40 ms wanted")
     reference = read("reference.channel")
-    cells = struct.unpack_from("<90i", reference, 48)
-    check(list(zip(cells[:30], cells[30:60], cells[60:])) == ROWS, "the file holds the survey's numbers")
+    check(list(zip(*(cell_row(reference, k) for k in range(3)))) == ROWS and dampings(reference) == (0,) * 30,
+        "the file holds the survey's numbers, and no damping")
     plain = survey(ROWS)
     turned = survey([(v, d, "b", h) for d, h, v in ROWS], "velocity_um_s,depth_mm,note,height_um")
     same = {
@@ -41,19 +41,24 @@ def good_surveys():
             check("not used: 'note'" in out, "a column that is not used is named")
         forget("same.channel")
     write("some.csv", survey([(d,) for d, _, _ in ROWS], "depth_mm"))
-    go("make", "some.csv", "-o", "some.channel", *COUNTS, tells="no column height_um.*no column velocity_um_s")
-    check(struct.unpack_from("<60i", read("some.channel"), 48 + 120) == (0,) * 60, "heights and velocities are 0")
+    go("make", "some.csv", "-o", "some.channel", *COUNTS,
+        tells="\n  no column height_um: all heights are 0\n  no column velocity_um_s: all velocities are 0\n"
+        "  no column damping_thousandths_s: all dampings are 0\n$")
+    check([cell_row(read("some.channel"), k) for k in (1, 2, 6)] == [(0,) * 30] * 3,
+        "heights, velocities and dampings are 0")
     for rows in (8, 256):
         write("edge.csv", survey([(1000,)] * rows, "depth_mm"))
         go("make", "edge.csv", "-o", "edge.channel", *COUNTS, "--replace")
-        check(len(read("edge.channel")) == 24 + 64 * rows, f"{rows} rows")
+        check(len(read("edge.channel")) == length(rows), f"{rows} rows")
 
 
 ROW_WORDS = {"depth_mm": "a depth is 1 to 20,000 mm", "height_um": "a height is -20,000,000 to 20,000,000 um",
-    "velocity_um_s": "a velocity is -20,000,000 to 20,000,000 um/s"}
+    "velocity_um_s": "a velocity is -20,000,000 to 20,000,000 um/s",
+    "damping_thousandths_s": "a damping is 0 to 10,000 thousandths per second"}
 MENDS = {31: "correct that depth; it may have been typed in another unit than mm",
     32: "correct that height; it may have been typed in another unit than um",
     33: "correct that velocity; it may have been typed in another unit than um/s",
+    38: "correct that damping; it may have been typed in another unit than thousandths per second",
     4: "make that cell deeper, or the water in it higher", 5: "take wider cells, or smooth the bottom"}
 
 
@@ -68,11 +73,11 @@ def fault(rows, width, step):
     """The refusal of a survey's rows: its number, the column, the cell from 0 and the words before and after it; None if
     there is none of these."""
     for k, (number, name, least, most) in enumerate(((31, "depth_mm", 1, 20000), (32, "height_um", -20000000, 20000000),
-        (33, "velocity_um_s", -20000000, 20000000))):
+        (33, "velocity_um_s", -20000000, 20000000), (38, "damping_thousandths_s", 0, 10000))):
         for j, row in enumerate(rows):
             if not least <= row[k] <= most:
                 return number, name, j, f"{ROW_WORDS[name]}, not {row[k]:,}", MENDS[number]
-    for j, (depth, height, _) in enumerate(rows):
+    for j, (depth, height, *_) in enumerate(rows):
         if 1000 * depth + height < 1000:
             return 4, "height_um", j, \
                 f"less than 1 mm of water is left: a depth of {depth:,} mm, a height of {height:,} um", MENDS[4]
@@ -94,17 +99,18 @@ def refused_cells():
     """Line, column and cell of what the library refuses, in surveys whose lines are not their cells."""
     group("cells of a survey that are refused")
     draw = random.Random(tested.seed + 7)
-    names = ["place", "velocity_um_s", "depth_mm", "cell", "height_um"]
+    names = ["place", "velocity_um_s", "depth_mm", "cell", "height_um", "damping_thousandths_s"]
     seen = {}
 
     def tried(rows, name, width=1000, step=COUNTS[3]):
+        rows = [(*row, 0)[:4] for row in rows]  # without damping where none is given
         wrong = fault(rows, width, step)
         counts = ("--width-mm", width, "--step-ms", step, *COUNTS[4:])
         order = draw.sample(names, len(names))
         lines, at = [], []
         for j, row in enumerate([None, *rows]):
-            lines += ["# a remark", "", ",,,,"][:draw.choice((0, 0, 0, 1, 2, 3))]
-            fields = {"place": "", "cell": j, **dict(zip(("depth_mm", "height_um", "velocity_um_s"), row or ()))}
+            lines += ["# a remark", "", ",,,,,"][:draw.choice((0, 0, 0, 1, 2, 3))]
+            fields = {"place": "", "cell": j, **dict(zip(ROW_WORDS, row or ()))}
             lines.append(",".join(str(fields[name]) for name in order) if row else ",".join(order))
             at.append(len(lines))
         write("bad.csv", "\n".join(lines) + "\n")
@@ -136,24 +142,27 @@ def refused_cells():
     for j in (0, 1, 38, 58, 59):
         for row in ((0, 0, 0), (-1, 0, 0), (20001, 0, 0), (2147483647, 0, 0), (-2147483648, 0, 0), (900, 20000001, 0),
             (900, -20000001, 0), (900, 0, 20000001), (900, 0, -20000001), (900, 2147483647, 0), (900, 0, -2147483648),
-            (900, -899001, 0), (900, -899000, 0), (900, 20000000, 0), (900, 0, 9000)):
+            (900, -899001, 0), (900, -899000, 0), (900, 20000000, 0), (900, 0, 9000), (900, 0, 0, -1),
+            (900, 0, 0, 10001), (900, 0, 0, 10000), (900, 0, 0, 2147483647), (900, 0, 0, -2147483648)):
             tried(with_cells({j: row}), f"{row} in cell {j + 1}")
         tried(with_cells({j: (2000, 0, 0)}), f"a step of the bottom at cell {j + 1}")
         for deep in (1941, 1942, 4352, 4353):
             tried(with_cells({j: (1000, 0, 0)}, [(deep, 0, 0)] * 60), f"1,000 mm beside {deep} mm at cell {j + 1}")
     tried(with_cells({2: (900, 20000001, 0), 8: (0, 0, 0)}), "a depth before a height in a lower cell")
     tried(with_cells({2: (900, 0, 20000001), 8: (900, -20000001, 0)}), "a height before a velocity in a lower cell")
-    tried(with_cells({0: (900, -899001, 0), 59: (900, 0, 20000001)}), "a velocity before a dry cell")
+    tried(with_cells({0: (900, 0, 0, -1), 59: (900, 0, 20000001)}), "a velocity before a damping in a lower cell")
+    tried(with_cells({0: (900, -899001, 0), 59: (900, 0, 0, 10001)}), "a damping before a dry cell")
     tried(with_cells({4: (1000, 0, 0), 40: (1942, -1941001, 0)}, [(1942, 0, 0)] * 60), "a dry cell before a steep one")
     tried(with_cells({17: (0, 0, 0), 5: (20001, 0, 0), 41: (0, 0, 0)}), "the lowest of three depths")
     tried(with_cells({j: (0, 20000001, 20000001) for j in range(60)}), "a fault everywhere")
     for k in range(60):
-        rows = [(draw.randint(800, 1000), draw.randint(-9000, 9000), draw.randint(-900, 900))
+        rows = [(draw.randint(800, 1000), draw.randint(-9000, 9000), draw.randint(-900, 900), draw.randint(0, 10000))
             for _ in range(draw.choice((8, 9, 30, 256)))]
         for _ in range(draw.randint(1, 4)):
             j = draw.choice((0, len(rows) - 1, draw.randrange(len(rows))))
-            value = draw.choice((0, -1, 1, 20000, 20001, 20000000, 20000001, -20000000, -20000001, -899001))
-            column = draw.randrange(3)
+            value = draw.choice((0, -1, 1, 10000, 10001, 20000, 20001, 20000000, 20000001, -20000000, -20000001,
+                -899001))
+            column = draw.randrange(4)
             rows[j] = tuple(value if i == column else old for i, old in enumerate(rows[j]))
         if fault(rows, 1000, COUNTS[3]):
             tried(rows, f"drawn faults {k}")
@@ -166,7 +175,7 @@ def refused_cells():
         tried(with_cells({j: (6540, 0, 0)}, flat(6500)), f"the deepest, cell {j + 1}, is allowed", 327, 100)
     tried(with_cells({7: (6550, 0, 0), 31: (6550, 0, 0), 40: (6549, 0, 0)}, flat(6540)), "the first of the deepest", 327, 100)
     tried(with_cells({40: (6541, -6540001, 0)}, flat(6540)), "a dry cell before the time step", 327, 100)
-    tried(with_cells({3: (6541, 0, 0), 40: (6540, 0, 20000001)}, flat(6540)), "a velocity before it", 327, 100)
+    tried(with_cells({3: (6541, 0, 0), 40: (6540, 0, 0, -1)}, flat(6540)), "a damping before it", 327, 100)
     tried(with_cells({4: (1000, 0, 0)}, flat(6541)), "the time step before a steep bottom", 327, 100)
     tried(with_cells({4: (1000, 0, 0)}, flat(6540)), "a steep bottom alone", 327, 100)
     for _ in range(20):
@@ -179,7 +188,7 @@ def refused_cells():
                     width, step)
     for number, places in sorted(seen.items()):
         check(len(places) == 3, f"refusal {number} in the first, a middle and the last cell: {places}")
-    check(sorted(seen) == [4, 5, 26, 31, 32, 33], f"each refusal of a cell: {sorted(seen)}")
+    check(sorted(seen) == [4, 5, 26, 31, 32, 33, 38], f"each refusal of a cell: {sorted(seen)}")
 
 
 def bad_surveys():
@@ -188,6 +197,11 @@ def bad_surveys():
 
     def with_line(number, text):
         return "\n".join(lines[:number - 1] + [text] + lines[number:]) + "\n"
+
+    def with_damping(number, field):
+        rows = [(depth, 0) for depth, _, _ in ROWS]
+        rows[number - 2] = (900, field)
+        return survey(rows, "depth_mm,damping_thousandths_s")
 
     bad = {
         "a missing column": (survey([row[1:] for row in ROWS], "height_um,velocity_um_s"),
@@ -211,6 +225,14 @@ def bad_surveys():
             r"line 3, column 3 \(velocity_um_s\): a velocity is -20,000,000 to 20,000,000 um/s, not 4294967301\n$"),
         "a velocity of -2^31 - 1": (with_line(3, "900,0,-2147483649"), "line 3, column 3 .*um/s, not -2147483649\n$"),
         "a velocity of 2^64 + 5": (with_line(3, "900,0,18446744073709551621"), "line 3, column 3 .*, not 184467"),
+        "a damping of 1.5": (with_damping(5, "1.5"),
+            r"line 5, column 2 \(damping_thousandths_s\): '1.5' is not a whole number"),
+        "a word for a damping": (with_damping(31, "reeds"),
+            r"line 31, column 2 \(damping_thousandths_s\): 'reeds' is not a whole number"),
+        "a damping of 2^31": (with_damping(2, 2147483648), r"line 2, column 2 \(damping_thousandths_s\): a damping is "
+            r"0 to 10,000 thousandths per second, not 2147483648\n$"),
+        "a damping of 2^32": (with_damping(2, 4294967296), "line 2, column 2 .*per second, not 4294967296\n$"),
+        "a damping of -2^31 - 1": (with_damping(2, -2147483649), "line 2, column 2 .*per second, not -2147483649\n$"),
         "too few fields": (with_line(12, "900,0"), "line 12: has 2 fields where the column names are 3"),
         "too many fields": (with_line(12, "900,0,0,0"), "line 12: has 4 fields"),
         "257 rows": (survey([(1000,)] * 257, "depth_mm"), "line 258: is row 257; a channel has 8 to 256 cells"),
@@ -224,6 +246,10 @@ def bad_surveys():
             r"line 1, column 1 \(depth_m\): is not a name"),
         "a misspelt column": (survey(ROWS, "depth_mm,heigth_um,velocity_um_s"),
             r"line 1, column 2 \(heigth_um\): is not a name"),
+        **{f"a column {name}": (survey(ROWS, f"depth_mm,height_um,{name}"),
+            rf"line 1, column 3 \({name}\): is not a name of a survey; the names are depth_mm, height_um, "
+            r"velocity_um_s, damping_thousandths_s and cell, in these units\n$")
+            for name in ("damping", "Damping", "damping_1_s", "damping_s", "dampening", "reeds_thousandths_s")},
         "semicolons": (survey(ROWS).replace(",", ";"), "line 1: columns are parted by ';'"),
         "a quote not closed": (with_line(5, '"900,0,0'), "line 5, column 1 .*quote is not closed"),
         "words after a quote": (with_line(5, '"900"x,0,0'), "line 5, column 1 .*after the closing quote"),
