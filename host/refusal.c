@@ -1,4 +1,5 @@
 #include "refusal.h"
+#include "damping.h"
 
 #include <stdio.h>
 
@@ -263,8 +264,26 @@ static void say_wider(struct measures of, const char *before)
         GROUPED((int64_t)(of.depth + 9) / 10), GROUPED((int64_t)of.depth));
 }
 
-/* What to mend in a run whose time step is not too long. */
-static void say_calm_mend(struct measures of, uint64_t answer, const char *before)
+enum { DAMPED_MOST = 900000 }; /* thousandths per second times ms, by docs/CHOOSING.md */
+
+/* Whether the greatest damping times the time step is beyond what is advised, where the first step of water that moves
+   there may not settle. */
+static bool is_damped_hard(const uint8_t *file)
+{
+    return pathpetal_damping(file, most_damped(file)) * (int64_t)pathpetal_step_ms(file) >= DAMPED_MOST;
+}
+
+static void say_less_damping(const uint8_t *file, const char *before)
+{
+    size_t cell = most_damped(file);
+    int64_t damping = pathpetal_damping(file, cell);
+    say("%stake a shorter time step: at most %s ms for the damping of %s thousandths per second in cell %zu; or less "
+        "damping (their product is to stay below %s)", before, GROUPED((DAMPED_MOST - 1) / damping), GROUPED(damping),
+        cell + 1, GROUPED(DAMPED_MOST));
+}
+
+/* What to mend in a run whose time step is not too long for the depth. */
+static void say_calm_mend(const uint8_t *file, struct measures of, uint64_t answer, const char *before)
 {
     const char *often = "a filter pass more often (every 20 steps)";
     unsigned number = pathpetal_number(answer);
@@ -276,7 +295,9 @@ static void say_calm_mend(struct measures of, uint64_t answer, const char *befor
     case PATHPETAL_SPEED: say("%stake lower velocities, lower waves or %s", before, often); break;
     case PATHPETAL_HEIGHT: say("%stake lower waves, wider cells or %s", before, often); break;
     case PATHPETAL_UNSETTLED:
-        if (is_too_deep(of))
+        if (is_damped_hard(file))
+            say_less_damping(file, before);
+        else if (is_too_deep(of))
             say_wider(of, before);
         else
             say("%stake half the time step, wider cells or %s", before, often);
@@ -306,7 +327,7 @@ void say_mend(const uint8_t *file, uint64_t answer, bool poured)
     }
     if (poured)
         say("to mend: %s", pour_less);
-    say_calm_mend(of, answer, poured ? "or " : "to mend: ");
+    say_calm_mend(file, of, answer, poured ? "or " : "to mend: ");
 }
 
 struct shown stage_words(unsigned stage)

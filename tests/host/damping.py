@@ -2,8 +2,8 @@
 import random, re
 import xml.etree.ElementTree as xml
 
-from common import (COUNTS, NO_STAFFS, OPTIONS, REFUSED, ROWS, check, forget, go, group, listing, parts_left, read,
-    saved, tested, write)
+from common import (COUNTS, NO_STAFFS, OPEN, OPTIONS, REFUSED, ROWS, check, forget, go, group, listing, parts_left,
+    read, saved, tested, write)
 from formats import cell_row, counts, dampings, heights, sha, survey
 
 NAMES = "depth_mm,height_um,velocity_um_s,damping_thousandths_s"
@@ -141,6 +141,24 @@ def slowed():
         forget("d.csv", "d.channel", *saved("d.end"))
 
 
+def too_much():
+    """Water that moves in reeds whose damping times time step is too large: what is advised is taken."""
+    group("a first step that does not settle in its reeds")
+    for damping, step, most in ((10000, 100, 89), (10000, 95, 89), (9500, 100, 94), (9300, 100, 96)):
+        write("d.csv", survey([(5000, 1000000, damping - (j < 5)) for j in range(64)],
+            "depth_mm,velocity_um_s,damping_thousandths_s"))
+        for taken in (step, most):
+            go("make", "d.csv", "-o", "d.channel", "--width-mm", 5000, "--step-ms", taken, "--steps", 20, "--replace")
+            if taken == most:
+                go("run", "d.channel", "-o", "d.end", "--replace", name=f"damping {damping}, {most} ms, as advised")
+                continue
+            go("run", "d.channel", "-o", "d.end", status=OPEN, says=r"^pathpetal: step 1 of 20 was refused in its "
+                r"correction 10 \(number 10, stage 10\): ten corrections did not settle\n"
+                rf"pathpetal: to mend: take a shorter time step: at most {most} ms for the damping of {damping:,} "
+                r"thousandths per second in cell 6; or less damping \(their product is to stay below 900,000\)\n")
+        forget("d.csv", "d.channel", *saved("d.end"))
+
+
 def gone_on_with(begin, end):
     """A run with damping, cut at each of some steps, by its checkpoint and by the same command again."""
     group("runs with damping, cut and gone on with")
@@ -179,4 +197,5 @@ def damping(begin, end):
     columns(begin)
     shown()
     slowed()
+    too_much()
     gone_on_with(begin, end)
