@@ -165,9 +165,9 @@ def convert(crate, function, info, folder):
             body = re.sub(r"(?<![\w'-])([\w'₀-₉-]+)\.([\w'-]+)(?![\w'-])", field, body)
             body = re.sub(r"(?<=\.)([\w'₀-₉-]+)\.([\w'-]+)(?![\w'-])", field, body)
         body = re.sub(r"\.(well|type)-(formed|inv)(?![\w-])", r".\1_\2", body)
-        for n, new in goals.items():
-            if new and n != new:
-                body = re.sub(r"(?<![^\s(,])" + re.escape(n) + r"(?![^\s),;])", new, body)
+        def renamed(m):
+            return goals.get(m.group(0)) or m.group(0)
+        body = re.sub(r"(?<![^\s(,])(?!tie\.)" + WORD + r"+(?![^\s),;])", renamed, body)
         return body
 
     answers, invariants, uses, helpers = [], [], [], []
@@ -202,6 +202,8 @@ def convert(crate, function, info, folder):
             if len(given) != len(want):
                 said.append(f"{name} has {len(given)} parameters, and the loop {want}")
             term = clause.group(2)
+            source = "".join(open(os.path.join(r, x), encoding="utf-8").read() for r, _, fs in os.walk(f"crates/{crate}/src") for x in fs)
+            want = [f"(to_z w64 {w})" if re.search(r"\b" + w.split(".")[-1] + r": i64\b", source) else w for w in want]
             for g, w in sorted(zip(given, want), key=lambda x: -len(x[0])):
                 if g != "_":
                     term = re.sub(r"(?<![\w'₀-₉.-])" + re.escape(g) + r"(?![\w'₀-₉-])", "\0" + w + "\0", term)
@@ -216,15 +218,19 @@ def convert(crate, function, info, folder):
             if not new:
                 answers.append("-- LEFT\n" + body)
                 continue
-            body = re.sub(r"(?m)^(pub )?" + re.escape(name) + r" : tie\.Need-.*$", f"pub {new} : goal.{new}", body, count=1)
-            body = re.sub(r"(?m)^" + re.escape(name) + r" (c|_)( κs| _)?(?= )", new + r" \1", body)
-            answers.append(fix(body, True))
+            body = fix(body, True)
+            body = re.sub(r"(?m)^(pub )?" + re.escape(new) + r" : tie\.Need-.*$", f"pub {new} : goal.{new}", body, count=1)
+            body = re.sub(r"(?m)^" + re.escape(new) + r" (c|_)( κs| _)?(?= )", new + r" \1", body)
+            answers.append(body)
             continue
         if kind == "sig" and re.search(r"(?m)^" + re.escape(name or "") + r" =\s*tie\.close", body):
             continue
         if kind == "sig" and "tie.close" in body:
             continue
-        answers.append(fix(body, False))
+        body = fix(body, False)
+        if re.search(r"(?m)^(\S+) = \1$", body):
+            continue
+        answers.append(body)
     out = "\n".join(uses) + "\n" if uses else ""
     lead = "\n".join(re.findall(r"(?m)^--.*$", text.split("\nuse ")[0])) if text.startswith("--") else ""
     base = f"Rattle.{crate}.proofs.{function}"
@@ -237,6 +243,8 @@ def convert(crate, function, info, folder):
         open(os.path.join(folder, "Answers.antt"), "w", encoding="utf-8").write(t + "\n" + body + "\n")
     if invariants:
         t = out + f"use {base}.Given as goal\n"
+        if any("to_z w64" in i for i in invariants) and not re.search(r"to_z[,}]", out):
+            t = "use mir.Val.{to_z}\n" + ("" if re.search(r"w64[,}]", out) else "use mir.Syntax.{w64}\n") + t
         open(os.path.join(folder, "Invariants.antt"), "w", encoding="utf-8").write(t + "\n" + "\n\n".join(invariants) + "\n")
     os.remove(path)
     return "\n".join(f"{path}: {s}" for s in said)
