@@ -202,6 +202,11 @@ def convert(crate, function, info, folder):
             if len(given) != len(want):
                 said.append(f"{name} has {len(given)} parameters, and the loop {want}")
             term = clause.group(2)
+            # a signed variable is a whole number there, and no more its bits
+            term = re.sub(r"\bof_z w64 (?=[(\w])", "", term)
+            if len(given) != len(want):
+                said.append(f"{name} has {len(given)} parameters, and the loop {want}")
+            term = clause.group(2)
             source = "".join(open(os.path.join(r, x), encoding="utf-8").read() for r, _, fs in os.walk(f"crates/{crate}/src") for x in fs)
             want = [f"(to_z w64 {w})" if re.search(r"\b" + w.split(".")[-1] + r": i64\b", source) else w for w in want]
             for g, w in sorted(zip(given, want), key=lambda x: -len(x[0])):
@@ -243,8 +248,6 @@ def convert(crate, function, info, folder):
         open(os.path.join(folder, "Answers.antt"), "w", encoding="utf-8").write(t + "\n" + body + "\n")
     if invariants:
         t = out + f"use {base}.Given as goal\n"
-        if any("to_z w64" in i for i in invariants) and not re.search(r"to_z[,}]", out):
-            t = "use mir.Val.{to_z}\n" + ("" if re.search(r"w64[,}]", out) else "use mir.Syntax.{w64}\n") + t
         open(os.path.join(folder, "Invariants.antt"), "w", encoding="utf-8").write(t + "\n" + "\n\n".join(invariants) + "\n")
     os.remove(path)
     return "\n".join(f"{path}: {s}" for s in said)

@@ -1,6 +1,6 @@
 -- Refusal numbers: the first test that fails, in order, with its number and its place. Assumes nothing.
 use Rattle.std.specs.Prelude.{ℕ, ◌≡◌, Bool, cond, List, eqb}
-use Rattle.std.proofs.Common.{arith, ◌∙◌, ap, ne_eqb}
+use Rattle.std.proofs.Common.{◌∙◌, ap, ne_eqb}
 use Rattle.std.proofs.Math.Path.{refl, sym}
 use Rattle.std.proofs.Math.Bool.{true, false}
 use Rattle.rule.specs.declared.Fault.{Fault}

@@ -1,4 +1,6 @@
 // Refusal numbers: the lowest place at fault, found by one step of a loop over any row, and the first of several tests.
+#![tactic(auto)]
+
 ghost use Rattle.std.specs.Prelude.{◌≡◌, ◌+◌, ◌<◌, ◌^◌};
 ghost use Rattle.places.specs.Lowest.{lower};
 ghost use Rattle.places.specs.Faults.{or_fault};
