@@ -204,11 +204,6 @@ def convert(crate, function, info, folder):
             term = clause.group(2)
             # a signed variable is a whole number there, and no more its bits
             term = re.sub(r"\bof_z w64 (?=[(\w])", "", term)
-            if len(given) != len(want):
-                said.append(f"{name} has {len(given)} parameters, and the loop {want}")
-            term = clause.group(2)
-            source = "".join(open(os.path.join(r, x), encoding="utf-8").read() for r, _, fs in os.walk(f"crates/{crate}/src") for x in fs)
-            want = [f"(to_z w64 {w})" if re.search(r"\b" + w.split(".")[-1] + r": i64\b", source) else w for w in want]
             for g, w in sorted(zip(given, want), key=lambda x: -len(x[0])):
                 if g != "_":
                     term = re.sub(r"(?<![\w'₀-₉.-])" + re.escape(g) + r"(?![\w'₀-₉-])", "\0" + w + "\0", term)
