@@ -1,5 +1,7 @@
 // The four calls over lent rows, for C, with numbers and pointers alone: each gives the answer's number, and its stage, place and
 // count by pointers. The comparison with the second program and the bench call them.
+#![tactic(auto)]
+
 ghost use Rattle.std.specs.Prelude.{◌≡◌};
 ghost use Rattle.rule.specs.Channel.{channel};
 ghost use Rattle.rule.specs.Calls.{make_call, step_call, filter_call, run_call};

@@ -1,21 +1,21 @@
-// What C calls: each call over the bytes of a channel file or of gauges, with its answer packed into one number; and which rule
-// they follow.
+// Each call over the bytes of a channel file or of gauges, with its answer packed into one number; and which rule they follow. The
+// static library pathpetal_c hands each on to C under its name.
+#![tactic(auto)]
+
 ghost use Rattle.std.specs.Prelude.{◌≡◌};
 ghost use Rattle.rule.specs.Calls.{rule_number, packed, check_file, step_file, filter_file, run_for_file, make_file};
 ghost use Rattle.little.specs.Numbers.{AreBytes};
 ghost use Rattle.gauge.specs.OnGauges.{place_file, feed_file, read_state};
 
 // The rule that all calls follow: whoever goes on with a file asks whether its steps were taken by the same.
-#[unsafe(no_mangle)]
-pub extern "C" fn pathpetal_rule() -> u64
+pub fn pathpetal_rule() -> u64
     ensures { result ≡ rule_number }
 {
     3
 }
 
 // Makes the file of a channel with no step accepted.
-#[unsafe(no_mangle)]
-pub extern "C" fn pathpetal_make(
+pub fn pathpetal_make(
     cells: u64,
     width: u64,
     time: u64,
@@ -34,8 +34,7 @@ pub extern "C" fn pathpetal_make(
 }
 
 // Whether bytes are a channel file.
-#[unsafe(no_mangle)]
-pub extern "C" fn pathpetal_check(file: &[u8]) -> u64
+pub fn pathpetal_check(file: &[u8]) -> u64
     ensures value { result ≡ packed (check_file file.now) }
     ensures are_bytes { AreBytes file.now }
 {
@@ -43,8 +42,7 @@ pub extern "C" fn pathpetal_check(file: &[u8]) -> u64
 }
 
 // One step, with a row poured.
-#[unsafe(no_mangle)]
-pub extern "C" fn pathpetal_step(file: &mut [u8], poured: &[u8]) -> u64
+pub fn pathpetal_step(file: &mut [u8], poured: &[u8]) -> u64
     ensures value { (result ≡ packed (step_file file.old poured.now).answer) × (file.new ≡ (step_file file.old poured.now).left) }
     ensures are_bytes { AreBytes file.old }
 {
@@ -52,8 +50,7 @@ pub extern "C" fn pathpetal_step(file: &mut [u8], poured: &[u8]) -> u64
 }
 
 // One filter pass.
-#[unsafe(no_mangle)]
-pub extern "C" fn pathpetal_filter(file: &mut [u8]) -> u64
+pub fn pathpetal_filter(file: &mut [u8]) -> u64
     ensures value { (result ≡ packed (filter_file file.old).answer) × (file.new ≡ (filter_file file.old).left) }
     ensures are_bytes { AreBytes file.old }
 {
@@ -62,8 +59,7 @@ pub extern "C" fn pathpetal_filter(file: &mut [u8]) -> u64
 }
 
 // Steps with nothing poured: at most `most`, until complete or refused.
-#[unsafe(no_mangle)]
-pub extern "C" fn pathpetal_run(file: &mut [u8], most: u64) -> u64
+pub fn pathpetal_run(file: &mut [u8], most: u64) -> u64
     ensures value { (result ≡ packed (run_for_file most file.old).answer) × (file.new ≡ (run_for_file most file.old).left) }
     ensures are_bytes { AreBytes file.old }
 {
@@ -72,24 +68,21 @@ pub extern "C" fn pathpetal_run(file: &mut [u8], most: u64) -> u64
 }
 
 // A gauge placed at a cell.
-#[unsafe(no_mangle)]
-pub extern "C" fn pathpetal_place_gauge(file: &[u8], gauges: &mut [u8], cell: u64) -> u64
+pub fn pathpetal_place_gauge(file: &[u8], gauges: &mut [u8], cell: u64) -> u64
     ensures { (result ≡ packed (place_file file.now cell gauges.old).answer) × (gauges.new ≡ (place_file file.now cell gauges.old).left) }
 {
     packing::pack(gauges::place_file(file, cell, gauges))
 }
 
 // Each gauge fed the height at its cell.
-#[unsafe(no_mangle)]
-pub extern "C" fn pathpetal_feed_gauges(file: &[u8], gauges: &mut [u8]) -> u64
+pub fn pathpetal_feed_gauges(file: &[u8], gauges: &mut [u8]) -> u64
     ensures { (result ≡ packed (feed_file file.now gauges.old).answer) × (gauges.new ≡ (feed_file file.now gauges.old).left) }
 {
     packing::pack(gauges::feed_file(file, gauges))
 }
 
 // What the gauges have counted.
-#[unsafe(no_mangle)]
-pub extern "C" fn pathpetal_read_gauges(gauges: &[u8], readings: &mut [i64]) -> u64
+pub fn pathpetal_read_gauges(gauges: &[u8], readings: &mut [i64]) -> u64
     ensures { (result ≡ packed (read_state gauges.now readings.old).answer) × (readings.new ≡ (read_state gauges.now readings.old).left) }
 {
     packing::pack(gauges::read(gauges, readings))
