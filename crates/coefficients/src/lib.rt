@@ -1,4 +1,6 @@
 // From V to u: the coefficients of each cell's row, and whether they are dominant.
+#![tactic(auto)]
+
 ghost use Rattle.std.specs.Prelude.{◌≡◌, ◌<◌, ◌≤◌, nat_abs};
 ghost use Rattle.whole.specs.Row.{tab};
 ghost use Rattle.rule.specs.Rows.{lowest};
