@@ -7,7 +7,7 @@ use Rattle.std.proofs.Common.{sym, ap, ◌∙◌, take_all}
 use Rattle.rule.specs.Ranges.{most_cells}
 use Rattle.rule.specs.Channel.{lengths}
 use Rattle.rule.specs.Layout.{widths, head_length, starts, span, offsets, start_of, length_of}
-use Rattle.layout.specs.Table.{six, seven, of_each, length-offsets}
+use Rattle.layout.specs.Table.{of_each, length-offsets}
 
 -- a row starts where the rows before it end
 start_at :

@@ -1,4 +1,6 @@
 // The channel file's layout, over the edition: where its offsets and its rows stand.
+#![tactic(auto)]
+
 ghost use Rattle.std.specs.Prelude.{◌≡◌, ◌+◌, ◌*◌, ◌≤◌, ◌<◌, length, take};
 ghost use Rattle.rule.specs.Rows.{same};
 ghost use Rattle.rule.specs.Channel.{lengths};
