@@ -1,4 +1,6 @@
 // "Refusal numbers": the time step beside the deepest cell's depth.
+#![tactic(auto)]
+
 ghost use Rattle.std.specs.Prelude.{◌≡◌};
 ghost use Rattle.rule.specs.Checks.{larger, deepest, timed};
 ghost use Rattle.rule.specs.Refusals.{fault_of};
