@@ -1,11 +1,13 @@
 // "Gauges": one gauge. Its counts are those of the whole record of heights that it was fed, and it keeps eight numbers.
+#![tactic(auto)]
+
 ghost use Rattle.std.specs.Prelude.{◌≡◌, ◌≤◌, nat_abs};
 ghost use Rattle.gauge.specs.Waves.{upward, higher, lower};
 ghost use Rattle.gauge.specs.Gauge.{from, is_empty, in_ranges, below, sound, right, waves, wave_of, grown};
 ghost use Rattle.gauge.specs.Small.{Small};
 
 // Heights are in µm, in the order in which they were fed.
-#[derive(Drop)]
+#[derive(Clone, Copy, Drop)]
 pub struct Gauge {
     // where it stands, counted from 1
     pub cell: i64,

@@ -5,15 +5,11 @@ use lib.Signed.{lt_z, le_z}
 use mir.Syntax.{w64}
 use mir.ValLaws.{to_z-of_z}
 use Rattle.gauge.specs.Waves.{upward}
-use Rattle.gauge.proofs.upward.Statement.{statement}
-use Rattle.gauge.proofs.upward.Tie as tie
+use Rattle.gauge.proofs.upward.Goals as goal
 
-returns : tie.Need-returns
+pub returns : goal.returns
 unfolding upward
 returns c =
     let before = to_z-of_z w64 c.args.before c.ranges.before in
     let height = to_z-of_z w64 c.args.height c.ranges.height in
     (λ i. lt_z (before i) (pos 0) && le_z (pos 0) (height i))
-
-pub upward_spec : {M : Type 1} → statement M
-upward_spec = tie.close (tie.spec returns)

@@ -4,16 +4,12 @@ use lib.Signed.{le_z}
 use mir.Syntax.{w64}
 use mir.ValLaws.{to_z-of_z}
 use Rattle.gauge.specs.Gauge.{from}
-use Rattle.gauge.proofs.from.Statement.{statement}
-use Rattle.gauge.proofs.from.Tie as tie
+use Rattle.gauge.proofs.from.Goals as goal
 
-returns : tie.Need-returns
+pub returns : goal.returns
 unfolding from
 returns c =
     let x = to_z-of_z w64 c.args.x c.ranges.x in
     let least = to_z-of_z w64 c.args.least c.ranges.least in
     let most = to_z-of_z w64 c.args.most c.ranges.most in
     (λ i. le_z (least i) (x i) && le_z (x i) (most i))
-
-pub from_spec : {M : Type 1} → statement M
-from_spec = tie.close (tie.spec returns)
