@@ -6,7 +6,7 @@ ghost use Rattle.rule.specs.declared.Reduced.TheVariants.{Kept};
 ghost use Rattle.rule.specs.Ranges.{most_reduced};
 ghost use Rattle.coefficients.specs.Ready.{Sized};
 
-// Three coefficients and the right side d = typeof.w.V.
+// Three coefficients and the right side d = w * V.
 pub fn equation(w: u64, r: rule::Coefficients, v: i64) -> rule::Equation
     requires { (w ≤ 250_000_000_000_000) × Sized r × (nat_abs v ≤ most_reduced) }
     ensures { result ≡ equation w r v }
