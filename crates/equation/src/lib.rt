@@ -1,4 +1,6 @@
 // From V to u: one row of the equations in f64, and one step of each sweep.
+#![tactic(auto)]
+
 ghost use Rattle.std.specs.Prelude.{◌≡◌, ◌≤◌, nat_abs};
 ghost use Rattle.rule.specs.Floats.{whole, ◌⊖◌, ◌⊗◌};
 ghost use Rattle.rule.specs.Solve.{equation, eliminate};
