@@ -86,7 +86,7 @@ module _ (h : Row) where
   deepest_found zero l = absurd (omega arith)
   deepest_found (suc n) l = by_last n (leb (deepest n h) (nat_abs (cell h n))) refl (deepest_found n)
 
--- T-as-T, the left side of 26 and X-as-X are far below what 64 bits hold
+-- T·T, the left side of 26 and X·X are far below what 64 bits hold
 pub time_small : {t : ℕ} → t ≤ most_time → t * t ≤ 10_000
 time_small h = mul-le-mul h h
 
