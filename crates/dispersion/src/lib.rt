@@ -1,4 +1,6 @@
 // Flux: M of each cell, the dispersive part before it is taken to the faces.
+#![tactic(auto)]
+
 ghost use Rattle.std.specs.Prelude.{◌≡◌, ◌*◌, ◌<◌, pos, ◌*ℤ◌, take};
 ghost use Rattle.rule.specs.Rows.{cell};
 ghost use Rattle.rule.specs.Channel as rule;
