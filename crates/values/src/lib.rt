@@ -1,4 +1,6 @@
 // "Refusal numbers", 31 to 38: the entries of each row in their range, and the lowest place at fault.
+#![tactic(auto)]
+
 ghost use Rattle.std.specs.Prelude.{◌≡◌, ◌+◌, ◌*◌, ◌-◌, ◌≤◌, ◌^◌, length, take, drop};
 ghost use Rattle.rule.specs.Rows.{all, lowest};
 ghost use Rattle.rule.specs.Ranges as rule;

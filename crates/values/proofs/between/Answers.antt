@@ -3,15 +3,11 @@ use mathlib.Core.Bool.{◌&&◌}
 use lib.Signed.{le_z}
 use mir.Syntax.{w64}
 use mir.ValLaws.{to_z-of_z}
-use Rattle.values.proofs.between.Statement.{statement}
-use Rattle.values.proofs.between.Tie as tie
+use Rattle.values.proofs.between.Goals as goal
 
-returns : tie.Need-returns
+pub returns : goal.returns
 returns c =
     let x = to_z-of_z w64 c.args.x c.ranges.x in
     let least = to_z-of_z w64 c.args.least c.ranges.least in
     let most = to_z-of_z w64 c.args.most c.ranges.most in
     (λ i. le_z (least i) (x i) && le_z (x i) (most i))
-
-pub between_spec : {M : Type 1} → statement M
-between_spec = tie.close (tie.spec returns)

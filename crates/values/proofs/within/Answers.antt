@@ -6,25 +6,18 @@ use lib.IntN.{pos}
 use lib.Signed.{le_z}
 use mir.Syntax.{w64}
 use mir.ValLaws.{to_z-of_z}
-use borrow.Author.Rules.{rules}
 use Rattle.whole.specs.Expr.{E, loc, lit, sub, need, rd_is}
 use Rattle.values.specs.Between.{within_is}
-use Rattle.values.proofs.within.Statement.{statement}
-use Rattle.values.proofs.within.Tie as tie
+use Rattle.values.proofs.within.Goals as goal
+use Rattle.values.proofs.within.Goals.{Start}
 
-abbrev top : tie.Start → E
+abbrev top : Start → E
 top c = loc c.args.most (pos c.args.most) (2 ^ 62) refl c.requires
 
-cast-top : tie.Need-overflow-cast-top
-cast-top c = search rules
+pub overflow_sub-result : goal.overflow_sub-result
+overflow_sub-result c = need (sub (lit (pos 0)) (top c)) tt
 
-sub-result : tie.Need-overflow-sub-result
-sub-result c = need (sub (lit (pos 0)) (top c)) tt
-
-returns : tie.Need-returns
+pub returns : goal.returns
 returns c =
     let x = to_z-of_z w64 c.args.x c.ranges.x in
     (λ i. le_z (rd_is (sub (lit (pos 0)) (top c)) tt i) (x i) && le_z (x i) (rd_is (top c) tt i)) ∙ within_is c.args.x c.args.most
-
-pub within_spec : {M : Type 1} → statement M
-within_spec = tie.close (tie.spec cast-top sub-result returns)
