@@ -1,0 +1,16 @@
+-- `text::put_state` meets its contract. Assumes nothing.
+use native.Mathlib.Omega.{arith}
+use Rattle.text.specs.Put.{put_as}
+use Rattle.text.specs.Lines.{state_text, is_done, is_open}
+use borrow.Author.Rules.{rules}
+use Rattle.text.proofs.put_state.Goals as goal
+
+pub returns-then-accepted-wanted : goal.returns-then-accepted-wanted
+returns-then-accepted-wanted c =
+    let a = c.args in
+    put_as (state_text a.accepted a.wanted) c.put_word.ensures (is_done a.accepted a.wanted (omega arith))
+
+pub returns-else-accepted-wanted : goal.returns-else-accepted-wanted
+returns-else-accepted-wanted c =
+    let a = c.args in
+    put_as (state_text a.accepted a.wanted) c.put_word-else-accepted-wanted.ensures (is_open a.accepted a.wanted c.if-accepted-wanted.false)
