@@ -1,4 +1,6 @@
 // The channel file: the printed line, put into a lent buffer from left to right. Each function answers where its text ends.
+#![tactic(auto)]
+
 ghost use Rattle.std.specs.Prelude.{◌≡◌, [], ◌∷◌, ◌+◌, ◌^◌, ◌≤◌, nat_abs, length};
 ghost use Rattle.whole.specs.Row.{Within};
 ghost use Rattle.rule.specs.Rows.{sum};

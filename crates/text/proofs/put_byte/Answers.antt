@@ -1,6 +1,5 @@
 -- `text::put_byte` meets its contract. Assumes nothing.
 use Rattle.text.specs.Put.{put_one}
-use borrow.Author.Rules.{rules}
 use Rattle.text.proofs.put_byte.Goals as goal
 
 pub returns : goal.returns

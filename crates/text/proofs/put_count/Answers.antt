@@ -2,7 +2,6 @@
 use native.Mathlib.Omega.{arith}
 use Rattle.text.specs.Put.{put_then}
 use Rattle.text.specs.Lines.{count_text, length_count}
-use borrow.Author.Rules.{rules}
 use Rattle.text.proofs.put_count.Goals as goal
 
 pub put_decimal-next-requires : goal.put_decimal-next-requires

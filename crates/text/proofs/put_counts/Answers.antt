@@ -2,7 +2,6 @@
 use native.Mathlib.Omega.{arith}
 use Rattle.text.specs.Put.{put_then}
 use Rattle.text.specs.Lines.{counts_text, length-counts}
-use borrow.Author.Rules.{rules}
 use Rattle.text.proofs.put_counts.Goals as goal
 
 pub put_count-first-requires : goal.put_count-first-requires
@@ -18,4 +17,4 @@ pub returns : goal.returns
 unfolding counts_text
 returns c =
     let a = c.args in
-    put_then c.put_count-first.ensures (put_then c.put_count-second.ensures c.put_count-first.ensures (omega (arith, length-counts a.n a.accepted a.wanted))) (omega arith)
+    put_then c.put_count-first.ensures (put_then c.put_count-second.ensures c.put_count.ensures (omega (arith, length-counts a.n a.accepted a.wanted))) (omega arith)

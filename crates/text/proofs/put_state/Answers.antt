@@ -2,7 +2,6 @@
 use native.Mathlib.Omega.{arith}
 use Rattle.text.specs.Put.{put_as}
 use Rattle.text.specs.Lines.{state_text, is_done, is_open}
-use borrow.Author.Rules.{rules}
 use Rattle.text.proofs.put_state.Goals as goal
 
 pub returns-then-accepted-wanted : goal.returns-then-accepted-wanted

@@ -1,10 +1,9 @@
 -- `text::put_word` meets its contract. The first i bytes of the word are put. Assumes nothing.
-use Prim.Native.Nat.{◌-◌, ◌≤◌, ◌+◌}
-use mathlib.Core.Path.{◌≡◌, refl}
+use mathlib.Core.Path.{refl}
 use native.Mathlib.Omega.{arith}
-use lib.ListN.{length, length-set, take}
+use lib.ListN.{length-set}
 use lib.Seq.{take_all}
-use Rattle.text.specs.Put.{Put, put_none, put_more, put_as}
+use Rattle.text.specs.Put.{put_none, put_more, put_as}
 use Rattle.text.proofs.put_word.Goals as goal
 
 pub loop-i-init : goal.loop-i-init

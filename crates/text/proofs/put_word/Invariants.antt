@@ -1,10 +1,8 @@
 -- `text::put_word` meets its contract. The first i bytes of the word are put. Assumes nothing.
 use Prim.Native.Nat.{◌-◌, ◌≤◌, ◌+◌}
-use mathlib.Core.Path.{◌≡◌, refl}
-use native.Mathlib.Omega.{arith}
-use lib.ListN.{length, length-set, take}
-use lib.Seq.{take_all}
-use Rattle.text.specs.Put.{Put, put_none, put_more, put_as}
+use mathlib.Core.Path.{◌≡◌}
+use lib.ListN.{length, take}
+use Rattle.text.specs.Put.{Put}
 use Rattle.text.proofs.put_word.Given as goal
 
 abbrev pub invariant-loop-i : goal.invariant-loop-i

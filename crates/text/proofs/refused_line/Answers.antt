@@ -3,7 +3,6 @@ use native.Mathlib.Omega.{arith}
 use Rattle.text.specs.Put.{put_then}
 use Rattle.text.specs.Decimal.{length-decimal}
 use Rattle.text.specs.Lines.{refused_of, length_count, refused_short}
-use borrow.Author.Rules.{rules}
 use Rattle.text.proofs.refused_line.Goals as goal
 
 pub put_count-requires : goal.put_count-requires
