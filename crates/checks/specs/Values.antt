@@ -11,7 +11,7 @@ use Rattle.rule.specs.Refusals.{Refusal, Outcome, done, ◌>>=◌, number_of, fa
 use Rattle.rule.specs.Checks.{small, each, each_level, pourable}
 use Rattle.places.specs.Faults.{or_fault, each_then, depth_value, height_value, velocity_value, reduced_value, flux_value, acceleration_value}
 use Rattle.values.specs.Levels.{or_level, in_turn, level_then, level_all, levels_all}
-use Rattle.checks.specs.Numbers.{passed_each, passed_last, each_done, after_done, number_of_done, both_done, done_of, first_of, first_is}
+use Rattle.checks.specs.Numbers.{passed_each, passed_last, each_done, after_done, first_of, first_is}
 use Rattle.checks.specs.Facts.{values_allowed, levels_allowed}
 
 -- of what a channel is made from

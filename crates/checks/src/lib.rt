@@ -1,4 +1,6 @@
 // "Refusal numbers": the checks of an input, in the order 1, 2, 31 to 36, 38, 37, 4, 26, 5.
+#![tactic(auto)]
+
 ghost use Rattle.std.specs.Prelude.{◌≡◌, ◌&&◌, [], ◌∷◌, ◌<◌, ◌≤◌, pos, length};
 ghost use Rattle.std.specs.Int.Signed.{le_z};
 ghost use Rattle.rule.specs.Rows.{map, same, lowest};
