@@ -1,4 +1,6 @@
 // "Gauges": eight places for gauges in a row of 64 numbers, eight for each.
+#![tactic(auto)]
+
 ghost use Rattle.std.specs.Prelude.{◌≡◌, true, [], ◌∷◌, ◌+◌, ◌*◌, ◌≤◌, ◌<◌, length};
 ghost use Rattle.whole.specs.Row.{Within};
 ghost use Rattle.rule.specs.Ranges.{most_height};
@@ -58,7 +60,7 @@ fn put_reading(row: &mut [i64], at: usize, g: gauge::Gauge)
 }
 
 // What is asked of each place.
-#[derive(Drop)]
+#[derive(Clone, Copy, Drop)]
 pub enum Test {
     // its numbers are a gauge's, or all 0
     Right,
