@@ -1,4 +1,6 @@
 // Filtering: how a row of heights, which moves over faces, and a row of reduced velocities are smoothed.
+#![tactic(auto)]
+
 ghost use Rattle.std.specs.Prelude.{◌≡◌, ◌+◌, ◌-◌, ◌<◌};
 ghost use Rattle.whole.specs.Row.{padded};
 ghost use Rattle.rule.specs.Filter.{face_weights, cell_weights, smoothed, smoothed_reduced};
