@@ -1,0 +1,6 @@
+-- `flux::dispersive_part` meets its contract. Assumes nothing.
+use Rattle.flux.proofs.Laws.{part_is}
+use Rattle.flux.proofs.dispersive_part.Goals as goal
+
+pub returns : goal.returns
+returns c = let s = c.before.before in part_is s.args.ms.now s.args.j
