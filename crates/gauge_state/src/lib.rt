@@ -1,4 +1,6 @@
 // "Gauges": eight of them in a byte string, with the refusals that are theirs: 12, 14, 20, 21, 30 and 15.
+#![tactic(auto)]
+
 ghost use Rattle.std.specs.Prelude.{◌≡◌, [], ◌≤◌, pos, length};
 ghost use Rattle.rule.specs.Rows.{lowest};
 ghost use Rattle.whole.specs.Row.{Within};
