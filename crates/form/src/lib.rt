@@ -1,4 +1,6 @@
 // Reading: the form of a channel file's bytes, before its values.
+#![tactic(auto)]
+
 ghost use Rattle.std.specs.Prelude.{◌≡◌, ◌&&◌, ◌≤◌};
 ghost use Rattle.rule.specs.Ranges.{cells_allowed, most_cells};
 ghost use Rattle.rule.specs.Refusals.{fault_of};

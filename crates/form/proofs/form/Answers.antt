@@ -1,8 +1,6 @@
 -- `form::form` meets its contract. Assumes nothing.
 use mathlib.Core.Path.{◌≡◌, sym, ◌∙◌}
 use native.Mathlib.Omega.{arith}
-use borrow.Author.Tests.{not-true, not-false}
-use borrow.Author.Rules.{rules}
 use lib.ListN.{length}
 use Rattle.rule.specs.Layout.{length_of}
 use Rattle.rule.specs.File.{edition}

@@ -1,7 +1,6 @@
 -- `form::head` meets its contract. Assumes nothing.
 use mathlib.Core.Path.{sym, ◌∙◌}
 use native.Mathlib.Omega.{arith}
-use borrow.Author.Rules.{rules}
 use Rattle.rule.specs.File.{count_of}
 use Rattle.form.specs.Reader.{head_12, head_13, head_0}
 use Rattle.form.proofs.head.Goals as goal
