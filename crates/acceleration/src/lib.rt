@@ -1,4 +1,6 @@
 // Acceleration: F in the cells.
+#![tactic(auto)]
+
 ghost use Rattle.std.specs.Prelude.{◌≡◌, ◌<◌};
 ghost use Rattle.whole.specs.Row.{padded};
 ghost use Rattle.rule.specs.Acceleration.{undamped, acceleration, accelerations};

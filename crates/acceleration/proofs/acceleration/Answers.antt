@@ -2,7 +2,6 @@
 use mathlib.Core.Path.{◌∙◌, ap}
 use native.Mathlib.Nat.{le_trans}
 use native.Mathlib.Omega.{arith}
-use borrow.Author.Rules.{rules}
 use lib.Dec.{lit≤}
 use Rattle.whole.specs.Expr.{E, var, res, sub, mul, need, rd_is}
 use Rattle.rule.specs.Rounded.{rounded}

@@ -1,13 +1,11 @@
 -- `acceleration::accelerations` meets its contract. Assumes nothing.
-use Prim.Native.Nat.{◌-◌, ◌≤◌}
 use mathlib.Core.Path.{◌∙◌}
 use native.Mathlib.Omega.{arith}
-use borrow.Author.Rules.{rules}
 use borrow.Author.Rules.{sfits_of}
 use mir.Syntax.{w64}
 use mir.ValLaws.{to_z-of_z}
-use Rattle.rule.specs.Acceleration.{acceleration, accelerations}
-use Rattle.whole.specs.Row.{Filled, filled_start, filled_step, filled_end, zeros, fill_zeros}
+use Rattle.rule.specs.Acceleration.{accelerations}
+use Rattle.whole.specs.Row.{filled_start, filled_step, filled_end, zeros, fill_zeros}
 use Rattle.acceleration.proofs.accelerations.Goals as goal
 
 pub loop-j-init : goal.loop-j-init

@@ -3,7 +3,6 @@ use Prim.Native.Nat.{◌*◌}
 use mathlib.Core.Path.{◌≡◌, ◌∙◌, ap}
 use native.Mathlib.Nat.{le_trans}
 use native.Mathlib.Omega.{arith}
-use borrow.Author.Rules.{rules}
 use lib.Dec.{lit≤}
 use lib.IntN.{pos, +ℤ_idl}
 use Rattle.whole.specs.Expr.{E, var, res, lit, add, sub, mul, plain, need, rd_is, abs≤}
@@ -45,7 +44,7 @@ advection c =
     (res 360_000_000 (D_u c) (slope_odd most_velocity s.args.n s.args.u.now s.requires.0.velocities.small (omega arith) s.args.j s.requires.1))
 
 abbrev both : After-weigh_odd → E
-both c = add (gravity c.before.before.before) (advection c)
+both c = add (gravity c.before.before.before.before) (advection c)
 
 abbrev whole : After-rounded → E
 whole c =
