@@ -1,4 +1,6 @@
 // Reading: the counts and rows that the bytes of a channel file hold.
+#![tactic(auto)]
+
 ghost use Rattle.std.specs.Prelude.{◌≡◌, true, ◌≤◌, length};
 ghost use Rattle.rule.specs.Ranges.{most_cells};
 ghost use Rattle.rule.specs.Counted.{counted, counts_of};
