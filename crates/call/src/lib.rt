@@ -1,10 +1,12 @@
 // The calls that change a channel, on lent rows.
+#![tactic(auto)]
+
 ghost use Rattle.std.specs.Prelude.{◌≡◌};
 ghost use Rattle.rule.specs.Counted.{counted, left};
 ghost use Rattle.call.specs.Walk.{pours_of, call_of};
 
 // The calls that change a channel: a step with a row poured, a filter pass, at most so many steps of a run.
-#[derive(Drop)]
+#[derive(Clone, Copy, Drop)]
 pub enum Call {
     Step,
     Filter,

@@ -1,4 +1,6 @@
 // A call on the channel of a file that the reader takes: opened in arrays, called, and written back.
+#![tactic(auto)]
+
 ghost use Rattle.std.specs.Prelude.{◌≡◌};
 ghost use Rattle.rule.specs.File.{channel_of};
 ghost use Rattle.rule.specs.Calls.{row_in};

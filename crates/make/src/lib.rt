@@ -1,4 +1,6 @@
 // Making: a channel from its counts, depths h, heights e, velocities u and damping.
+#![tactic(auto)]
+
 ghost use Rattle.std.specs.Prelude.{◌≡◌};
 ghost use Rattle.rule.specs.Counted.{counted, left};
 ghost use Rattle.rule.specs.Calls.{make_call};

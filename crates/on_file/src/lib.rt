@@ -1,5 +1,7 @@
 // The calls over the bytes of a channel file: a check is the reader's, each other call is one walk. Each contract says last that
 // what is lent are bytes, as the language knows of any `[u8]`: theorems about outcomes go by contracts.
+#![tactic(auto)]
+
 ghost use Rattle.std.specs.Prelude.{◌≡◌, length, take};
 ghost use Rattle.rule.specs.Calls.{check_file, step_file, filter_file, run_for_file, run_file};
 ghost use Rattle.little.specs.Numbers.{AreBytes};

@@ -1,5 +1,7 @@
 // One walk for every call over the bytes of a channel file: the channel is opened, the call is made on its rows, and the file
 // of what it leaves is written back.
+#![tactic(auto)]
+
 ghost use Rattle.std.specs.Prelude.{◌≡◌};
 ghost use Rattle.little.specs.Numbers.{AreBytes};
 ghost use Rattle.answers.specs.Stages.{leaves_bytes};

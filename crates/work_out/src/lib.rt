@@ -1,4 +1,6 @@
 // Making: what is worked out of a channel that passes its checks.
+#![tactic(auto)]
+
 ghost use Rattle.std.specs.Prelude.{◌≡◌};
 ghost use Rattle.rule.specs.Make as rule;
 ghost use Rattle.work_out.specs.Made.{nothing, made_of};
