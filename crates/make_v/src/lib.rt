@@ -1,4 +1,6 @@
 // Make: from u to V.
+#![tactic(auto)]
+
 ghost use Rattle.std.specs.Prelude.{◌≡◌, ◌<◌, length};
 ghost use Rattle.rule.specs.Rows.{cell};
 ghost use Rattle.rule.specs.Floats.{whole, ◌⊗◌};
