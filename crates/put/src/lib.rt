@@ -1,4 +1,6 @@
 // Writing: the bytes of a channel into a buffer of its length.
+#![tactic(auto)]
+
 ghost use Rattle.std.specs.Prelude.{◌≡◌, [], ◌∷◌, ◌*◌, ◌≤◌, length};
 ghost use Rattle.rule.specs.Counted.{counted};
 ghost use Rattle.rule.specs.Layout.{head_length, offsets, start_of, length_of};
