@@ -42,7 +42,7 @@ kept c =
     let i = turn (worked c) in
     let l = i.before.loop in
     let s = start i in
-    corrected_kept s.args.c.n s.args.c.x s.args.c.t s.args.c.accepted s.args.h.now s.args.e.now s.args.v.now s.args.q.now s.args.f.now s.args.damping.now s.args.s.now s.pre.least s.pre.most s.pre.narrow s.pre.damping_small l.k l.inv.0 (few i) l.old l.inv.2 (worked c).stage2.result (worked c).stage2.ensures c.if2.false
+    corrected_kept s.args.c.n s.args.c.x s.args.c.t s.args.c.accepted s.args.h.now s.args.e.now s.args.v.now s.args.q.now s.args.f.now s.args.damping.now s.args.s.now s.requires.least s.requires.most s.requires.narrow s.requires.damping_small l.k l.invariant.0 (few i) l.old l.invariant.2 (worked c).stage2.result (worked c).stage2.ensures c.if2.false
 
 stage-requires : tie.Need-stage-requires invariant-loop decreases-loop
 stage-requires c κs = c.requires
@@ -95,7 +95,7 @@ returns-2 c =
     let r : Trial = d.stage2.result in
     subst (λ (k : Answer). Advances s.args.c.n s.args.c.x s.args.c.t s.args.c.accepted s.args.h.now s.args.e.now s.args.v.now s.args.q.now s.args.f.now s.args.damping.now s.args.s.now (record { answer = k; trial = r }))
     (sym c.refused2.ensures)
-    (corrected_refused s.args.c.n s.args.c.x s.args.c.t s.args.c.accepted s.args.h.now s.args.e.now s.args.v.now s.args.q.now s.args.f.now s.args.damping.now s.args.s.now s.pre.least s.pre.most s.pre.narrow s.pre.damping_small l.k l.inv.0 (few i) l.old l.inv.2 r d.stage2.ensures c.before.if2.true)
+    (corrected_refused s.args.c.n s.args.c.x s.args.c.t s.args.c.accepted s.args.h.now s.args.e.now s.args.v.now s.args.q.now s.args.f.now s.args.damping.now s.args.s.now s.requires.least s.requires.most s.requires.narrow s.requires.damping_small l.k l.invariant.0 (few i) l.old l.invariant.2 r d.stage2.ensures c.before.if2.true)
 
 slice-aggregate-settled : tie.Need-slice-aggregate-settled invariant-loop decreases-loop
 slice-aggregate-settled c = search rules
@@ -107,7 +107,7 @@ settled-requires : tie.Need-settled-requires invariant-loop decreases-loop
 settled-requires c κs =
     let e = c.before.before.before.before in
     let i = turn (worked e) in
-    settles_asks (start i).pre.most (worked e).stage2.result i.before.loop.old (kept e).kept i.before.loop.inv.2.kept
+    settles_asks (start i).requires.most (worked e).stage2.result i.before.loop.old (kept e).kept i.before.loop.invariant.2.kept
 
 accepted-requires : tie.Need-accepted-requires invariant-loop decreases-loop
 accepted-requires c κs = search rules
@@ -121,7 +121,7 @@ returns-3 c =
     let r = (worked e).stage2 in
     subst (λ (k : Answer). Advances s.args.c.n s.args.c.x s.args.c.t s.args.c.accepted s.args.h.now s.args.e.now s.args.v.now s.args.q.now s.args.f.now s.args.damping.now s.args.s.now (record { answer = k; trial = r.result }))
     (sym c.accepted.ensures)
-    (corrected_settled s.args.c.n s.args.c.x s.args.c.t s.args.c.accepted s.args.h.now s.args.e.now s.args.v.now s.args.q.now s.args.f.now s.args.damping.now s.args.s.now s.pre.least s.pre.most s.pre.narrow s.pre.damping_small l.k l.inv.0 (few i) l.old l.inv.2 r.result r.ensures e.if2.left
+    (corrected_settled s.args.c.n s.args.c.x s.args.c.t s.args.c.accepted s.args.h.now s.args.e.now s.args.v.now s.args.q.now s.args.f.now s.args.damping.now s.args.s.now s.requires.least s.requires.most s.requires.narrow s.requires.damping_small l.k l.invariant.0 (few i) l.old l.invariant.2 r.result r.ensures e.if2.false
     (sym (settled_is s.args.c.n r.result l.old) ∙ sym c.before.before.settled.ensures ∙ c.before.if3.true))
 
 add-k : tie.Need-overflow-add-k invariant-loop decreases-loop
@@ -139,7 +139,7 @@ loop-again c =
     let r = (worked e).stage2 in (
       omega arith,
       omega (arith, few i),
-      corrected_not s.args.c.n s.args.c.x s.args.c.t s.args.c.accepted s.args.h.now s.args.e.now s.args.v.now s.args.q.now s.args.f.now s.args.damping.now s.args.s.now s.pre.least s.pre.most s.pre.narrow s.pre.damping_small l.k l.inv.0 (few i) l.old l.inv.2 r.result r.ensures e.if2.left
+      corrected_not s.args.c.n s.args.c.x s.args.c.t s.args.c.accepted s.args.h.now s.args.e.now s.args.v.now s.args.q.now s.args.f.now s.args.damping.now s.args.s.now s.requires.least s.requires.most s.requires.narrow s.requires.damping_small l.k l.invariant.0 (few i) l.old l.invariant.2 r.result r.ensures e.if2.false
           (sym (settled_is s.args.c.n r.result l.old) ∙ sym c.before.settled.ensures ∙ c.if3.false),
     )
 

@@ -171,7 +171,7 @@ returns-3 c =
     let new = cells.keep-cells.ensures in
     let levels = renewed.renew-levels.ensures in
     (λ i. leaves (c.accepted.ensures i) (moved l l.accepted (new.0 i) (new.1 i) (new.2 i) (levels.0 i) (levels.1 i)))
-    ∙ stored l (passed k) s.smoothed.result s.smoothed.ensures z.if2.left
+    ∙ stored l (passed k) s.smoothed.result s.smoothed.ensures z.if2.false
 
 pub filter_spec : {M : Type 1} → statement M
 filter_spec =

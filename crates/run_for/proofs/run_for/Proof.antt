@@ -119,13 +119,13 @@ returns-2 c =
     let k = first i in
     let l = i.before.loop in
     let r = s.step.result in
-    let p = rw (stepped_from s) at s.step.ensures ∙ ap (step_call (now (most k) (lent k) l.accepted l.e l.u l.v l.q l.f)) (nothing_poured (lent k).N l.inv.few) in
-    run_stops (most k) (lent k) l.inv (omega (arith, i.loop-test.taken)) r.answer r.accepted _ _ _ _ _ p c.if2.true
+    let p = rw (stepped_from s) at s.step.ensures ∙ ap (step_call (now (most k) (lent k) l.accepted l.e l.u l.v l.q l.f)) (nothing_poured (lent k).N l.invariant.few) in
+    run_stops (most k) (lent k) l.invariant (omega (arith, i.loop-test.true)) r.answer r.accepted _ _ _ _ _ p c.if2.true
 
 add-count : tie.Need-overflow-add-count invariant-loop decreases-loop
 add-count c =
     let i = turn c.before.before.before.before.before.before.before.before in
-    record { fits = omega (arith, i.before.loop.inv.counted) }
+    record { fits = omega (arith, i.before.loop.invariant.counted) }
 
 sub-steps : tie.Need-overflow-sub-steps invariant-loop decreases-loop
 sub-steps c = search rules
@@ -141,8 +141,8 @@ loop-again c =
     let l = i.before.loop in
     let r = s.step.result in
     let w = s.step.auto in
-    let p = rw (stepped_from s) at s.step.ensures ∙ ap (step_call (now (most k) (lent k) l.accepted l.e l.u l.v l.q l.f)) (nothing_poured (lent k).N l.inv.few) in
-    run_on_lem (most k) (lent k) l.inv (omega (arith, i.loop-test.taken)) r.answer r.accepted _ _ _ _ _ p c.if2.false w.1.1.0 w.1.1.1.0 w.1.1.1.1.0 w.1.1.1.1.1.0 w.1.1.1.1.1.1.0
+    let p = rw (stepped_from s) at s.step.ensures ∙ ap (step_call (now (most k) (lent k) l.accepted l.e l.u l.v l.q l.f)) (nothing_poured (lent k).N l.invariant.few) in
+    run_on_lem (most k) (lent k) l.invariant (omega (arith, i.loop-test.true)) r.answer r.accepted _ _ _ _ _ p c.if2.false w.1.1.0 w.1.1.1.0 w.1.1.1.1.0 w.1.1.1.1.1.0 w.1.1.1.1.1.1.0
 
 at-end-requires : tie.Need-at-end-requires invariant-loop decreases-loop
 at-end-requires c κs = search rules

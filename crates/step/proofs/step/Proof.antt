@@ -47,10 +47,10 @@ keep-cells-requires : tie.Need-keep-cells-requires
 keep-cells-requires c κs = let z = c.before.before.before.before.before.before.before.before.before.before.before.before in cells_ask (attempted z.before.before) z.if1.false
 
 push-levels-requires : tie.Need-push-levels-requires
-push-levels-requires c κs = let z = accepted c.before.before.before.before.before.before.before in levels_ask (attempted z.before.before) z.if1.left
+push-levels-requires c κs = let z = accepted c.before.before.before.before.before.before.before in levels_ask (attempted z.before.before) z.if1.false
 
 add-accepted : tie.Need-overflow-add-accepted
-add-accepted c = let z = accepted (stored c) in count_fits (attempted z.before.before) z.if1.left
+add-accepted c = let z = accepted (stored c) in count_fits (attempted z.before.before) z.if1.false
 
 same-length-6 : tie.Need-same-length-6
 same-length-6 c = search rules
@@ -72,7 +72,7 @@ returns-2 c =
     let z = accepted (stored c) in
     let cells = (stored c).keep-cells.ensures in
     let levels = c.before.before.push-levels.ensures in
-    step_accepted (attempted z.before.before) z.if1.left _ _ _ _ _ _ (add-one z.before.before.before.before.before.before.before.before.args.c.accepted) cells.0 cells.1 cells.2 levels.0 levels.1
+    step_accepted (attempted z.before.before) z.if1.false _ _ _ _ _ _ (add-one z.before.before.before.before.before.before.before.before.args.c.accepted) cells.0 cells.1 cells.2 levels.0 levels.1
 
 pub step_spec : {M : Type 1} → statement M
 step_spec =
