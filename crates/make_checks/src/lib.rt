@@ -1,4 +1,6 @@
 // Making over bytes: what is tested before anything is worked out.
+#![tactic(auto)]
+
 ghost use Rattle.std.specs.Prelude.{◌≡◌, ◌&&◌, ◌≤◌};
 ghost use Rattle.rule.specs.Ranges.{cells_allowed, most_cells};
 ghost use Rattle.rule.specs.Refusals.{fault_of};
