@@ -22,7 +22,8 @@ use Rattle.files.specs.Reading.{read_of}
 use Rattle.files.specs.Trips.{read_file, file_read, read_passes}
 use Rattle.files.specs.Whole.{channel_back}
 use Rattle.water.specs.History as rule
-use Rattle.water.specs.History.{Call, pour, smooth, after, water_kept}
+use Rattle.water.specs.History.{Call, pour, smooth, after}
+use Rattle.water.proofs.History.{water_kept}
 use Rattle.water.specs.Counts.{count_grows, wanted_stays, complete_stays}
 use Rattle.water.specs.Again.{accepted_passes}
 use Rattle.water.specs.Starts.{make_passes}

@@ -8,7 +8,8 @@ use Rattle.rule.specs.Refusals.{number_of}
 use Rattle.rule.specs.Checks.{checked}
 use Rattle.rule.specs.Calls.{Called}
 use Rattle.answers.specs.Stages.{leaves}
-use Rattle.water.specs.History.{after, water_kept}
+use Rattle.water.specs.History.{after}
+use Rattle.water.proofs.History.{water_kept}
 use Rattle.water.specs.Counts.{complete_stays, count_grows, count_bounded, wanted_stays}
 use Rattle.water.specs.Again.{accepted_passes}
 use Rattle.water.specs.Late.{Timely, step_timely, filter_timely, run_timely, run_for_timely}

@@ -1,6 +1,6 @@
 -- "Gauges": the heights of a channel that passes its checks are such as a record may hold, from -19,999,000 µm to 20,000,000 µm; so
 -- feeding it to staffs is accepted, and puts its heights to their records. Assumes nothing.
-use Rattle.std.specs.Prelude.{ℕ, suc, ◌+◌, ◌*◌, ◌≤◌, ◌<◌, ◌≡◌, true, List, [], ℤ, pos, nat_abs, ◌+ℤ◌, ◌*ℤ◌, length}
+use Rattle.std.specs.Prelude.{ℕ, suc, ◌≤◌, ◌<◌, ◌≡◌, true, List, [], ℤ, pos, nat_abs, ◌+ℤ◌, ◌*ℤ◌, length}
 use Rattle.std.proofs.Common.{sym, ◌∙◌, ap, arith}
 use Rattle.std.specs.Int.Signed.{le_z}
 use Rattle.whole.specs.Ring.{var, num, neg, ◌⊕◌, ◌⊗◌, size_0}

@@ -1,1 +1,3 @@
+#![tactic(auto)]
+
 // "Gauges": what follows for gauges whose records are known stands in specs/.
