@@ -1,4 +1,6 @@
 // The stages of a step: a prediction, and corrections until they settle.
+#![tactic(auto)]
+
 ghost use Rattle.stage.specs.Asked.{Staging};
 ghost use Rattle.advance.specs.Advance.{Advances};
 

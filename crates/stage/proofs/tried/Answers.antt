@@ -9,28 +9,18 @@ use Rattle.places.specs.Lowest.{lowest_zero}
 use Rattle.checks.specs.Facts.{is_deep}
 use Rattle.stage.specs.Tried.{kept_long, too_high, too_shallow, too_fast, Passed, solve_asked, unsolved, Solution, solution, flux_asked, damped_asked, unbounded, worked_out}
 use Rattle.stage.proofs.tried.Goals as goal
-use Rattle.stage.proofs.tried.Goals.{Else-not-all_within, Else-not-low, Else-not-wet, Else-solved-ne0, Start}
-
--- where the function started, from after each check
-abbrev start1 : Else-not-low → Start
-start1 c = c.before.before.before.before.before
-
-abbrev start2 : Else-not-wet → Start
-start2 c = start1 c.before
-
-abbrev start3 : Else-not-all_within → Start
-start3 c = start2 c.before.before.before
+use Rattle.stage.proofs.tried.Goals.{Else-not-all_within, Else-not-low, Else-not-wet, Else-solved-ne0}
 
 -- what each check says
-high : (c : Else-not-low) → small most_height (firsts (start1 c).args.n (start1 c).args.e) ≡ true
+high : (c : Else-not-low) → small most_height (firsts c.args.n c.args.e) ≡ true
 high c = sym c.before.before.before.all_within-low.ensures ∙ c.if-not-low.false
 
-wet : (c : Else-not-wet) → is_deep (start2 c).args.n (start2 c).args.h.now (start2 c).args.e ≡ true
+wet : (c : Else-not-wet) → is_deep c.args.n c.args.h.now c.args.e ≡ true
 wet c =
     let dry = c.before.before.lowest_dry-dry in
     lowest_zero _ _ (sym dry.ensures ∙ c.if-not-wet.false)
 
-passed : (c : Else-not-all_within) → let a = (start3 c).args in Passed a.n a.x a.h.now a.e a.v a.damping.now
+passed : (c : Else-not-all_within) → let a = c.args in Passed a.n a.x a.h.now a.e a.v a.damping.now
 passed c =
     let d = c.before.before.before in
     record {
@@ -43,10 +33,10 @@ abbrev checked : Else-solved-ne0 → Else-not-all_within
 checked c = c.before.before.before.before
 
 solved : (c : Else-solved-ne0) →
-    let a = (start3 (checked c)).args in
+    let a = c.args in
     Solution a.n a.x a.h.now a.e a.v a.damping.now (passed (checked c)) c.before.before.solve-solved.result c.before.before.solve-solved.ensures
 solved c =
-    let a = (start3 (checked c)).args in
+    let a = c.args in
     solution a.n a.x a.h.now a.e a.v a.damping.now (passed (checked c)) c.before.before.solve-solved.result c.before.before.solve-solved.ensures c.if-solved-ne0.false
 
 pub returns-then-not-low : goal.returns-then-not-low
@@ -58,7 +48,7 @@ returns-then-not-low c =
 pub returns-then-not-wet : goal.returns-then-not-wet
 returns-then-not-wet c =
     let i = c.before.before in
-    let a = (start1 i).args in
+    let a = i.args in
     let dry = i.before.lowest_dry-dry in
     c.refusal-then-not-wet.ensures ∙ too_shallow a.n a.x a.h.now a.e a.v a.damping.now (high i) dry.result dry.ensures c.before.if-not-wet.true
 
@@ -66,27 +56,27 @@ pub returns-then-not-all_within : goal.returns-then-not-all_within
 returns-then-not-all_within c =
     let d = c.before.before in
     let i = d.before.before in
-    let a = (start2 i).args in
+    let a = i.args in
     c.refusal-then-not-all_within.ensures ∙ too_fast a.n a.x a.h.now a.e a.v a.damping.now (high i.before) (wet i) (sym d.all_within.ensures ∙ c.before.if-not-all_within.true)
 
 pub solve-solved-requires : goal.solve-solved-requires
 solve-solved-requires c =
     let i = c.before in
-    let a = (start3 i).args in
-    solve_asked a.n a.x a.h.now a.e a.v a.damping.now (start3 i).requires (passed i)
+    let a = i.args in
+    solve_asked a.n a.x a.h.now a.e a.v a.damping.now i.requires (passed i)
 
 pub returns-then-solved-ne0 : goal.returns-then-solved-ne0
 returns-then-solved-ne0 c =
     let d = c.before.before.before in
     let i = d.before.before in
-    let a = (start3 i).args in
+    let a = i.args in
     c.refusal-then-solved-ne0.ensures ∙ unsolved a.n a.x a.h.now a.e a.v a.damping.now (passed i) d.solve-solved.result d.solve-solved.ensures c.before.if-solved-ne0.true
 
 pub fluxes-faces-requires : goal.fluxes-faces-requires
 fluxes-faces-requires c =
     let i = c.before.before.before in
     let d = i.before.before in
-    let s = start3 (checked i) in
+    let s = i in
     let a = s.args in
     flux_asked a.n a.x a.h.now a.e a.v a.damping.now (passed (checked i)) d.solve-solved.result d.solve-solved.ensures s.requires (solved i)
 
@@ -95,13 +85,13 @@ returns-then-faces-ne0 c =
     let g = c.before.before.before in
     let i = g.before.before.before.before in
     let d = i.before.before in
-    let s = start3 (checked i) in
+    let s = i in
     let a = s.args in
     c.refusal-then-faces-ne0.ensures ∙ unbounded a.n a.x a.h.now a.e a.v a.damping.now (passed (checked i)) d.solve-solved.result d.solve-solved.ensures (solved i) (omega (arith, s.requires.least)) g.fluxes-faces.result g.fluxes-faces.ensures c.before.if-faces-ne0.true
 
 pub slice_bounds-accelerations-end : goal.slice_bounds-accelerations-end
 slice_bounds-accelerations-end c =
-    let s = start3 (checked c.before.before.before.before.before.before.before.before) in
+    let s = c in
     sym (kept_long s.args.n s.args.e s.requires.most s.requires.e_kept)
 
 pub accelerations-f-requires : goal.accelerations-f-requires
@@ -109,7 +99,7 @@ accelerations-f-requires c =
     let g = c.before.before.before.before.before in
     let i = g.before.before.before.before in
     let d = i.before.before in
-    let s = start3 (checked i) in
+    let s = i in
     let a = s.args in
     damped_asked a.n a.x a.h.now a.e a.v a.damping.now (passed (checked i)) d.solve-solved.result d.solve-solved.ensures s.requires (solved i)
 
@@ -119,6 +109,6 @@ returns c =
     let g = j.before.before in
     let i = g.before.before.before.before in
     let d = i.before.before in
-    let s = start3 (checked i) in
+    let s = i in
     let a = s.args in
     worked_out a.n a.x a.h.now a.e a.v a.damping.now (passed (checked i)) d.solve-solved.result d.solve-solved.ensures (solved i) (omega (arith, s.requires.least)) g.fluxes-faces.result g.fluxes-faces.ensures j.if-faces-ne0.false c.accelerations-f.result c.accelerations-f.ensures s.requires.e_kept s.requires.v_kept
