@@ -1,4 +1,6 @@
 // Reading: the channel file's bytes, in the reader's own order: 12, 13, 1, 12, 14, then the other input checks.
+#![tactic(auto)]
+
 ghost use Rattle.std.specs.Prelude.{◌≡◌};
 ghost use Rattle.rule.specs.Refusals.{fault_of};
 ghost use Rattle.rule.specs.Checks.{checked};
