@@ -16,14 +16,14 @@ pub data AnyCall : Type 0 where
   pour : Row → AnyCall
   smooth : AnyCall
   run : AnyCall
-  run_for_lem : ℕ → AnyCall
+  run_for : ℕ → AnyCall
 
 -- on the channel c, by the rule
 unfoldable pub on_channel : Channel → AnyCall → Called Channel
 on_channel c (pour s) = step_call c s
 on_channel c smooth = filter_call c
 on_channel c run = run_call c
-on_channel c (run_for_lem most) = run_for_call most c
+on_channel c (run_for most) = run_for_call most c
 
 -- what calls leave one after the other, and what they answer
 unfoldable pub channel_after : Channel → List AnyCall → Channel
@@ -39,7 +39,7 @@ unfoldable pub calls_of : Channel → AnyCall → List Call
 calls_of c (pour s) = rule.pour s ∷ []
 calls_of c smooth = rule.smooth ∷ []
 calls_of c run = still c.N (run_call c).answer.count
-calls_of c (run_for_lem most) = still c.N (run_for_call most c).answer.count
+calls_of c (run_for most) = still c.N (run_for_call most c).answer.count
 
 unfoldable pub all_calls : Channel → List AnyCall → List Call
 all_calls c [] = []
@@ -50,7 +50,7 @@ unfoldable pub asked_by : {c d : Channel} → Link c d → AnyCall
 asked_by (links.step o) = pour (steps.row o)
 asked_by (links.filter o) = smooth
 asked_by (links.run o) = run
-asked_by (links.run_for o) = run_for_lem (runs.most o)
+asked_by (links.run_for o) = run_for (runs.most o)
 
 unfoldable pub asked : {c d : Channel} → History c d → List AnyCall
 asked none = []

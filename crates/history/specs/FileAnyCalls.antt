@@ -13,7 +13,7 @@ use Rattle.history.specs.FileHistory.{FileLink, FileHistory, none, then, answer}
 pub data AnyFileCall : Type 0 where
   step : List ℕ → AnyFileCall
   filter : AnyFileCall
-  run_for_lem : ℕ → AnyFileCall
+  run_for : ℕ → AnyFileCall
   run : AnyFileCall
   c_step : List ℕ → AnyFileCall
   c_filter : AnyFileCall
@@ -23,7 +23,7 @@ pub data AnyFileCall : Type 0 where
 unfoldable pub call_of : AnyFileCall → FileCall
 call_of (step p) = pour p
 call_of filter = smooth
-call_of (run_for_lem most) = rule.run_for most
+call_of (run_for most) = rule.run_for most
 call_of run = rule.run_for most_steps
 call_of (c_step p) = pour p
 call_of c_filter = smooth
@@ -38,7 +38,7 @@ file_answers_to s (call ∷ calls) = (on_bytes s call).answer ∷ file_answers_t
 unfoldable pub asked_by : {s t : List ℕ} → FileLink s t → AnyFileCall
 asked_by (links.step o) = step (step_row o)
 asked_by (links.filter o) = filter
-asked_by (links.run_for o) = run_for_lem (run_for_most o)
+asked_by (links.run_for o) = run_for (run_for_most o)
 asked_by (links.run o) = run
 asked_by (links.c_step o) = c_step (step_row o)
 asked_by (links.c_filter o) = c_filter

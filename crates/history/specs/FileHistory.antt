@@ -20,7 +20,7 @@ pub data FileStart : List ℕ → Type 0 where
 pub data FileLink : List ℕ → List ℕ → Type 0 where
   step : (o : Step) → FileLink (step_entry o) (step_exit o)
   filter : (o : Filter) → FileLink (entry o) (exit o)
-  run_for_lem : (o : RunFor) → FileLink (run_for_entry o) (run_for_exit o)
+  run_for : (o : RunFor) → FileLink (run_for_entry o) (run_for_exit o)
   run : (o : Run) → FileLink (entry o) (exit o)
   c_step : (o : CStep) → FileLink (step_entry o) (step_exit o)
   c_filter : (o : CFilter) → FileLink (entry o) (exit o)
@@ -35,7 +35,7 @@ pub data FileHistory (s : List ℕ) : List ℕ → Type 0 where
 unfoldable pub call_by : {s t : List ℕ} → FileLink s t → FileCall
 call_by (step o) = pour (step_row o)
 call_by (filter o) = smooth
-call_by (run_for_lem o) = rule.run_for (run_for_most o)
+call_by (run_for o) = rule.run_for (run_for_most o)
 call_by (run o) = rule.run_for most_steps
 call_by (c_step o) = pour (step_row o)
 call_by (c_filter o) = smooth
@@ -45,7 +45,7 @@ call_by (c_run o) = rule.run_for (c_run_most o)
 unfoldable pub answer : {s t : List ℕ} → FileLink s t → Answer
 answer (step o) = o.r
 answer (filter o) = o.r
-answer (run_for_lem o) = o.r
+answer (run_for o) = o.r
 answer (run o) = (run_for_file most_steps (entry o)).answer
 answer (c_step o) = unpacked o.r
 answer (c_filter o) = unpacked o.r

@@ -13,7 +13,7 @@ use Rattle.on_file.specs.Ran.{run_leaves, run_writes_all, run_writes_none}
 use Rattle.on_file.specs.Stays.{Refused, Stepless, step_refused_file_stays, filter_refused_file_stays, stepless_run_file_stays}
 use Rattle.packing.specs.Packed.{make_unpacked, check_unpacked}
 use Rattle.water.specs.Late.{Timely}
-use Rattle.history.specs.FileRule.{FileCall, pour, smooth, run_for_lem, on_bytes, file_after, heights}
+use Rattle.history.specs.FileRule.{FileCall, pour, smooth, run_for, on_bytes, file_after, heights}
 use Rattle.history.specs.FileLate.{file_timely}
 use Rattle.history.specs.Files.{taken_bounded, make_file_taken, check_taken}
 use Rattle.history.specs.FileCalls.{Run, entry, exit, check_bytes}
@@ -62,13 +62,13 @@ library_file_complete_stays (then h l) e =
 abbrev pub Idle : FileCall → Answer → Type 0
 Idle (pour p) r = Refused r
 Idle smooth r = Refused r
-Idle (run_for_lem most) r = Stepless r
+Idle (run_for most) r = Stepless r
 
 idle : (s : List ℕ) (call : FileCall) → AreBytes s → Idle call (on_bytes s call).answer → (on_bytes s call).left ≡ s
 unfolding on_bytes
 idle s (pour p) b w = step_refused_file_stays s b p w
 idle s smooth b w = filter_refused_file_stays s b w
-idle s (run_for_lem most) b w = stepless_run_file_stays s b most w
+idle s (run_for most) b w = stepless_run_file_stays s b most w
 
 -- leaves every byte
 pub library_file_refused_stays : {s t : List ℕ} (l : FileLink s t) → Idle (call_by l) (answer l) → t ≡ s

@@ -12,7 +12,7 @@ use Rattle.checks.specs.Allowed.{unpoured}
 use Rattle.files.specs.Reading.{read_of}
 use Rattle.files.specs.Trips.{read_passes}
 use Rattle.water.specs.Late.{Timely, InTime, Refuses, Paced, paced_of, allowed_timely, step_timely, filter_timely, run_for_timely}
-use Rattle.history.specs.FileRule.{FileCall, pour, smooth, run_for_lem, on_bytes}
+use Rattle.history.specs.FileRule.{FileCall, pour, smooth, run_for, on_bytes}
 
 -- the time step of its channel is allowed
 paced_file : (s : List ℕ) → number_of (read s) ≡ 0 → Paced (channel_of s)
@@ -46,4 +46,4 @@ pub file_timely : (s : List ℕ) (call : FileCall) → number_of (read s) ≡ 0 
 unfolding on_bytes step_file filter_file run_for_file read
 file_timely s (pour p) z = on_file_timely (λ c. step_call c (row_in p)) (λ c y. step_timely c (row_in p) y) (holds p) (row_in p ∷ []) s z
 file_timely s smooth z = on_file_timely filter_call filter_timely (λ _. true) [] s z
-file_timely s (run_for_lem most) z = on_file_timely (run_for_call most) (run_for_timely most) (λ _. true) [] s z
+file_timely s (run_for most) z = on_file_timely (run_for_call most) (run_for_timely most) (λ _. true) [] s z

@@ -12,7 +12,7 @@ use Rattle.files.specs.Whole.{bytes_file}
 use Rattle.files.specs.Trips.{file_read}
 use Rattle.answers.specs.Stages.{leaves_bytes}
 use Rattle.packing.specs.Packed.{make_unpacked}
-use Rattle.history.specs.FileRule.{FileCall, pour, smooth, run_for_lem, on_bytes}
+use Rattle.history.specs.FileRule.{FileCall, pour, smooth, run_for, on_bytes}
 use Rattle.history.specs.FileHistory.{FileStart, made, checked, c_made, c_checked, FileLink, FileHistory, none, then, ruled, call_by}
 use Rattle.history.specs.FileTold.{both, told, lent}
 use Rattle.history.specs.FileKept.{library_file_passes}
@@ -27,7 +27,7 @@ pub bytes_stay : (s : List ℕ) (call : FileCall) → AreBytes s → AreBytes (o
 unfolding on_bytes step_file filter_file run_for_file
 bytes_stay s (pour p) b = by_read _ s _ b
 bytes_stay s smooth b = by_read _ s _ b
-bytes_stay s (run_for_lem most) b = by_read _ s _ b
+bytes_stay s (run_for most) b = by_read _ s _ b
 
 left_bytes : {s t : List ℕ} → FileLink s t → AreBytes t
 unfolding ruled

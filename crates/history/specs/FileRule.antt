@@ -11,13 +11,13 @@ use Rattle.history.specs.History.{amount, one}
 pub data FileCall : Type 0 where
   pour : List ℕ → FileCall
   smooth : FileCall
-  run_for_lem : ℕ → FileCall
+  run_for : ℕ → FileCall
 
 -- on the bytes s
 unfoldable pub on_bytes : List ℕ → FileCall → Called (List ℕ)
 on_bytes s (pour p) = step_file s p
 on_bytes s smooth = filter_file s
-on_bytes s (run_for_lem most) = run_for_file most s
+on_bytes s (run_for most) = run_for_file most s
 
 -- and what calls leave one after the other
 unfoldable pub file_after : List ℕ → List FileCall → List ℕ
@@ -32,13 +32,13 @@ heights s = sum (row_of edition (count_of s 1) s 1)
 unfoldable pub poured_with : FileCall → Answer → ℤ
 poured_with (pour p) r = amount r (row_in p)
 poured_with smooth r = pos 0
-poured_with (run_for_lem most) r = pos 0
+poured_with (run_for most) r = pos 0
 
 -- and how many steps it accepts: steps that answer number 0, and the counts that runs answer
 unfoldable pub accepted_with : FileCall → Answer → ℕ
 accepted_with (pour p) r = one r
 accepted_with smooth r = 0
-accepted_with (run_for_lem most) r = r.count
+accepted_with (run_for most) r = r.count
 
 -- on the bytes s, as the rule answers
 unfoldable pub file_poured_by : List ℕ → FileCall → ℤ

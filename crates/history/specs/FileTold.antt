@@ -11,7 +11,7 @@ use Rattle.packing.specs.Packed.{step_unpacked, filter_unpacked, run_unpacked}
 use Rattle.history.specs.FileRule.{FileCall, on_bytes, file_after, poured_with, accepted_with, file_poured_by, file_accepted_by}
 use Rattle.history.specs.Files.{Left, call_left}
 use Rattle.history.specs.FileCalls.{step_entry, step_row, entry, c_run_most, c_run_entry}
-use Rattle.history.specs.FileHistory.{FileLink, step, filter, run_for_lem, run, c_step, c_filter, c_run, FileHistory, none, then, poured_by, accepted_by, answer, ruled, call_by, calls}
+use Rattle.history.specs.FileHistory.{FileLink, step, filter, run_for, run, c_step, c_filter, c_run, FileHistory, none, then, poured_by, accepted_by, answer, ruled, call_by, calls}
 
 -- an answer and bytes that are a call's
 pub both : (k : Called (List ℕ)) {a : Answer} {t : List ℕ} → a ≡ k.answer → t ≡ k.left → leaves_bytes a t ≡ k
@@ -22,7 +22,7 @@ pub told : {s t : List ℕ} (l : FileLink s t) → leaves_bytes (answer l) t ≡
 unfolding answer ruled call_by on_bytes
 told (step o) = o.permitted.0
 told (filter o) = o.permitted.0
-told (run_for_lem o) = o.permitted.0
+told (run_for o) = o.permitted.0
 told (run o) = let s = entry o in both (run_for_file most_steps s) refl (o.permitted.0.1.1 ∙ run_leaves s)
 told (c_step o) =
     let s = step_entry o in
@@ -38,7 +38,7 @@ told (c_run o) =
 pub lent : {s t : List ℕ} → FileLink s t → AreBytes s
 lent (step o) = o.permitted.1
 lent (filter o) = o.permitted.1
-lent (run_for_lem o) = o.permitted.1
+lent (run_for o) = o.permitted.1
 lent (run o) = o.permitted.1
 lent (c_step o) = o.permitted.1
 lent (c_filter o) = o.permitted.1

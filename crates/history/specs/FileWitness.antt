@@ -8,14 +8,14 @@ use Rattle.rule.specs.Calls.{Called, packed, check_file, make_file, step_file, f
 use Rattle.little.specs.Numbers.{AreBytes}
 use Rattle.on_file.specs.Ran.{in_buffer, run_leaves}
 use Rattle.packing.specs.Packed.{make_unpacked, check_unpacked}
-use Rattle.history.specs.Witness.{forever, ref}
+use Rattle.history.specs.Witness.{forever, ref, mut}
 use Rattle.history.specs.FileRule as rule
 use Rattle.history.specs.FileRule.{FileCall, pour, smooth, on_bytes, file_after}
 use Rattle.history.specs.FileOne.{bytes_stay}
 use Rattle.history.specs.FileHistory as links
 use Rattle.history.specs.FileHistory.{FileStart, FileLink, FileHistory, none, then, answer, ruled, call_by, calls}
 use Rattle.history.specs.FileKept.{file_answers_are_the_rule's}
-use Rattle.history.specs.FileAnyCalls.{AnyFileCall, step, filter, run_for_lem, run, c_step, c_filter, c_run, call_of, file_answers_to, asked_by, asked, answers}
+use Rattle.history.specs.FileAnyCalls.{AnyFileCall, step, filter, run_for, run, c_step, c_filter, c_run, call_of, file_answers_to, asked_by, asked, answers}
 
 -- the running program writes all of what it made
 written : (s t : List ℕ) → take (length t) (in_buffer s t) ≡ t
@@ -33,26 +33,26 @@ pub any_file_link : (s : List ℕ) → AreBytes s → (call : AnyFileCall) → L
 unfolding on_bytes call_of asked_by
 any_file_link s b (step p) =
     let k = step_file s p in
-    record { link = links.step (record { κs = forever 2; a = (ref s, (ref p, tt)); r = k.answer; x = (ref k.left, (ref p, tt)); permitted = (refl, b) }); asks = refl }
+    record { link = links.step (record { κs = forever 2; a = (mut s, (ref p, tt)); r = k.answer; x = (mut k.left, (ref p, tt)); permitted = (refl, b) }); asks = refl }
 any_file_link s b filter =
     let k = filter_file s in
-    record { link = links.filter (record { κs = forever 1; a = (ref s, tt); r = k.answer; x = (ref k.left, tt); permitted = (refl, b) }); asks = refl }
-any_file_link s b (run_for_lem most) =
+    record { link = links.filter (record { κs = forever 1; a = (mut s, tt); r = k.answer; x = (mut k.left, tt); permitted = (refl, b) }); asks = refl }
+any_file_link s b (run_for most) =
     let k = run_for_file most s in
-    record { link = links.run_for (record { κs = forever 1; a = (most, (ref s, tt)); r = k.answer; x = (most, (ref k.left, tt)); permitted = (refl, b) }); asks = refl }
+    record { link = links.run_for (record { κs = forever 1; a = (most, (mut s, tt)); r = k.answer; x = (most, (mut k.left, tt)); permitted = (refl, b) }); asks = refl }
 any_file_link s b run =
     let t = run_file s in
     subst (λ x. Linked s x run) (run_leaves s)
-    (record { link = links.run (record { κs = forever 1; a = (ref s, tt); r = length t; x = (ref (in_buffer s t), tt); permitted = ((written s t, (refl, refl)), b) }); asks = refl })
+    (record { link = links.run (record { κs = forever 1; a = (mut s, tt); r = length t; x = (mut (in_buffer s t), tt); permitted = ((written s t, (refl, refl)), b) }); asks = refl })
 any_file_link s b (c_step p) =
     let k = step_file s p in
-    record { link = links.c_step (record { κs = forever 2; a = (ref s, (ref p, tt)); r = packed k.answer; x = (ref k.left, (ref p, tt)); permitted = ((refl, refl), b) }); asks = refl }
+    record { link = links.c_step (record { κs = forever 2; a = (mut s, (ref p, tt)); r = packed k.answer; x = (mut k.left, (ref p, tt)); permitted = ((refl, refl), b) }); asks = refl }
 any_file_link s b c_filter =
     let k = filter_file s in
-    record { link = links.c_filter (record { κs = forever 1; a = (ref s, tt); r = packed k.answer; x = (ref k.left, tt); permitted = ((refl, refl), b) }); asks = refl }
+    record { link = links.c_filter (record { κs = forever 1; a = (mut s, tt); r = packed k.answer; x = (mut k.left, tt); permitted = ((refl, refl), b) }); asks = refl }
 any_file_link s b (c_run most) =
     let k = run_for_file most s in
-    record { link = links.c_run (record { κs = forever 1; a = (ref s, (most, tt)); r = packed k.answer; x = (ref k.left, (most, tt)); permitted = ((refl, refl), b) }); asks = refl }
+    record { link = links.c_run (record { κs = forever 1; a = (mut s, (most, tt)); r = packed k.answer; x = (mut k.left, (most, tt)); permitted = ((refl, refl), b) }); asks = refl }
 
 -- a link stands for the rule's call of its function, and answers as the rule does
 call_is : {s t : List ℕ} (l : FileLink s t) → call_by l ≡ call_of (asked_by l)
@@ -98,7 +98,7 @@ any_file_history s b asks = goes_on [] [] [] b (record { history = none; asks = 
 plain : FileCall → AnyFileCall
 plain (pour p) = step p
 plain smooth = filter
-plain (rule.run_for most) = run_for_lem most
+plain (rule.run_for most) = run_for most
 
 plain_is : (calls : List FileCall) → map call_of (map plain calls) ≡ calls
 unfolding plain call_of
@@ -127,9 +127,9 @@ module _ (n X T wanted : ℕ) (h e u damping buffer : List ℕ) where
       links.made
       (record {
         κs = forever 5;
-        a = (n, (X, (T, (wanted, (ref h, (ref e, (ref u, (ref damping, (ref buffer, tt)))))))));
+        a = (n, (X, (T, (wanted, (ref h, (ref e, (ref u, (ref damping, (mut buffer, tt)))))))));
         r = made.answer;
-        x = (n, (X, (T, (wanted, (ref h, (ref e, (ref u, (ref damping, (ref made.left, tt)))))))));
+        x = (n, (X, (T, (wanted, (ref h, (ref e, (ref u, (ref damping, (mut made.left, tt)))))))));
         permitted = refl;
       })
       z
@@ -139,9 +139,9 @@ module _ (n X T wanted : ℕ) (h e u damping buffer : List ℕ) where
       links.c_made
       (record {
         κs = forever 5;
-        a = (n, (X, (T, (wanted, (ref h, (ref e, (ref u, (ref damping, (ref buffer, tt)))))))));
+        a = (n, (X, (T, (wanted, (ref h, (ref e, (ref u, (ref damping, (mut buffer, tt)))))))));
         r = packed made.answer;
-        x = (n, (X, (T, (wanted, (ref h, (ref e, (ref u, (ref damping, (ref made.left, tt)))))))));
+        x = (n, (X, (T, (wanted, (ref h, (ref e, (ref u, (ref damping, (mut made.left, tt)))))))));
         permitted = (refl, refl);
       })
       (ap (λ r. r.number) (make_unpacked n X T wanted h e u damping buffer refl) ∙ z)

@@ -31,7 +31,7 @@ use Rattle.history.specs.History.{amount, one, still}
 use Rattle.history.specs.Basin.{is_like}
 use Rattle.history.specs.Answers.{step_amount, step_one, still_poured, run_for_taken}
 use Rattle.history.specs.FileRule as files
-use Rattle.history.specs.FileRule.{FileCall, run_for_lem, on_bytes, heights, poured_with, accepted_with, file_poured_by, file_accepted_by}
+use Rattle.history.specs.FileRule.{FileCall, run_for, on_bytes, heights, poured_with, accepted_with, file_poured_by, file_accepted_by}
 
 -- the counts, the heights and the damping of a channel, in its file
 pub record In (s : List ℕ) (c : Channel) : Type 0 where
@@ -128,7 +128,7 @@ unfolding on_bytes poured_with accepted_with file_poured_by file_accepted_by ste
 call_left s (files.pour p) =
     by_file (λ c. step_call c (row_in p)) (λ a. amount a (row_in p)) one (step_moves (row_in p)) (none_poured (row_in p)) s (holds p) (row_in p ∷ [])
 call_left s files.smooth = by_file filter_call (λ a. pos 0) (λ a. 0) filter_moves (λ r stage. (refl, refl)) s (λ _. true) []
-call_left s (run_for_lem most) =
+call_left s (run_for most) =
     by_file (run_for_call most) (λ a. pos 0) (λ a. a.count) (run_for_moves most) (λ r stage. (refl, refl)) s (λ _. true) []
 
 -- bytes that are read

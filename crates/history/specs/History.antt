@@ -25,7 +25,7 @@ pub data Link : Channel → Channel → Type 0 where
   step : (o : steps.Step) → Link (steps.entry o) (steps.exit o)
   filter : (o : filters.Filter) → Link (filters.entry o) (filters.exit o)
   run : (o : runs.Run) → Link (runs.entry o) (runs.exit o)
-  run_for_lem : (o : runs.RunFor) → Link (runs.entry_for o) (runs.exit_for o)
+  run_for : (o : runs.RunFor) → Link (runs.entry_for o) (runs.exit_for o)
 
 -- calls one after the other, each lent what the one before left
 pub data History (c : Channel) : Channel → Type 0 where
@@ -45,7 +45,7 @@ unfoldable pub poured_by : {c d : Channel} → Link c d → ℤ
 poured_by (step o) = amount (steps.answer o) (steps.row o)
 poured_by (filter o) = pos 0
 poured_by (run o) = pos 0
-poured_by (run_for_lem o) = pos 0
+poured_by (run_for o) = pos 0
 
 unfoldable pub poured : {c d : Channel} → History c d → ℤ
 poured none = pos 0
@@ -56,7 +56,7 @@ unfoldable pub accepted_by : {c d : Channel} → Link c d → ℕ
 accepted_by (step o) = one (steps.answer o)
 accepted_by (filter o) = 0
 accepted_by (run o) = (runs.answer o).count
-accepted_by (run_for_lem o) = (runs.answer_for o).count
+accepted_by (run_for o) = (runs.answer_for o).count
 
 unfoldable pub accepted : {c d : Channel} → History c d → ℕ
 accepted none = 0
@@ -67,13 +67,13 @@ unfoldable pub answer : {c d : Channel} → Link c d → Answer
 answer (step o) = steps.answer o
 answer (filter o) = filters.answer o
 answer (run o) = runs.answer o
-answer (run_for_lem o) = runs.answer_for o
+answer (run_for o) = runs.answer_for o
 
 unfoldable pub ruled : {c d : Channel} → Link c d → Called Channel
 ruled (step o) = step_call (steps.entry o) (steps.row o)
 ruled (filter o) = filter_call (filters.entry o)
 ruled (run o) = run_call (runs.entry o)
-ruled (run_for_lem o) = run_for_call (runs.most o) (runs.entry_for o)
+ruled (run_for o) = run_for_call (runs.most o) (runs.entry_for o)
 
 -- so many steps with nothing poured in n cells
 abbrev pub still : ℕ → ℕ → List Call
@@ -84,7 +84,7 @@ unfoldable pub calls_by : {c d : Channel} → Link c d → List Call
 calls_by (step o) = pour (steps.row o) ∷ []
 calls_by (filter o) = smooth ∷ []
 calls_by (run o) = still (runs.entry o).N (runs.answer o).count
-calls_by (run_for_lem o) = still (runs.entry_for o).N (runs.answer_for o).count
+calls_by (run_for o) = still (runs.entry_for o).N (runs.answer_for o).count
 
 unfoldable pub calls : {c d : Channel} → History c d → List Call
 calls none = []
@@ -95,10 +95,10 @@ unfoldable pub rows_of : {c d : Channel} → Link c d → List Row
 rows_of (step o) = steps.row o ∷ []
 rows_of (filter o) = []
 rows_of (run o) = []
-rows_of (run_for_lem o) = []
+rows_of (run_for o) = []
 
 unfoldable pub at_complete : {c d : Channel} → Link c d → Answer
 at_complete (step o) = refusal (plain 11) 0
 at_complete (filter o) = refusal (plain 11) 0
 at_complete (run o) = acceptance 0
-at_complete (run_for_lem o) = acceptance 0
+at_complete (run_for o) = acceptance 0

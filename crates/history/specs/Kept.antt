@@ -16,7 +16,7 @@ use Rattle.water.specs.Late.{Timely, step_timely, filter_timely, run_timely, run
 use Rattle.history.specs.Steps as steps
 use Rattle.history.specs.Filters as filters
 use Rattle.history.specs.Runs as runs
-use Rattle.history.specs.History.{Start, made, read, Link, step, filter, run, run_for_lem, History, poured, accepted, answer, ruled, calls, rows_of, at_complete}
+use Rattle.history.specs.History.{Start, made, read, Link, step, filter, run, run_for, History, poured, accepted, answer, ruled, calls, rows_of, at_complete}
 use Rattle.history.specs.Starts.{make_starts, read_starts}
 use Rattle.history.specs.Basin.{is_like}
 use Rattle.history.specs.Complete.{step_complete, filter_complete, run_complete, run_for_complete}
@@ -28,7 +28,7 @@ unfolding answer ruled
 answers_are_the_rule's (step o) = o.permitted
 answers_are_the_rule's (filter o) = o.permitted
 answers_are_the_rule's (run o) = o.permitted
-answers_are_the_rule's (run_for_lem o) = o.permitted
+answers_are_the_rule's (run_for o) = o.permitted
 
 module _ {c d : Channel} (h : History c d) where
   -- from any channel, by any calls: the heights add up to exactly their starting sum and every amount poured in by the accepted steps
@@ -65,7 +65,7 @@ unfolding ruled
 ruled_timely (step o) z = step_timely (steps.entry o) (steps.row o) z
 ruled_timely (filter o) z = filter_timely (filters.entry o) z
 ruled_timely (run o) z = run_timely (runs.entry o) z
-ruled_timely (run_for_lem o) z = run_for_timely (runs.most o) (runs.entry_for o) z
+ruled_timely (run_for o) z = run_for_timely (runs.most o) (runs.entry_for o) z
 
 -- what the maker or the reader accepts passes the checks of an input
 pub start_passes : {c : Channel} → Start c → number_of (checked c []) ≡ 0
@@ -93,4 +93,4 @@ unfolding answer rows_of at_complete
 library_complete_answers (step o) e z = o.permitted ∙ step_complete (steps.entry o) e (steps.row o) z
 library_complete_answers (filter o) e z = o.permitted ∙ filter_complete (filters.entry o) e z
 library_complete_answers (run o) e z = o.permitted ∙ run_complete (runs.entry o) e z
-library_complete_answers (run_for_lem o) e z = o.permitted ∙ run_for_complete (runs.entry_for o) e (runs.most o) z
+library_complete_answers (run_for o) e z = o.permitted ∙ run_for_complete (runs.entry_for o) e (runs.most o) z

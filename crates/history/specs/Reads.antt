@@ -1,5 +1,5 @@
 -- Reading: an outcome of a call of `read::read`, any that its contract permits.
-use Rattle.std.specs.Prelude.{ℕ, List}
+use Rattle.std.specs.Prelude.{ℕ, List, true}
 use Rattle.rule.specs.declared.Answer.{Answer}
 use Rattle.rule.specs.Channel.{Channel}
 use Rattle.read.proofs.read.Kinds as kinds
@@ -12,10 +12,10 @@ Read = Outcome 8 kinds.ps kinds.r Post
 
 -- the channel that is lent, after the bytes, and the one that is left
 abbrev pub entry : Read → Channel
-entry o = lent o.a.1.0 o.a.1.1
+entry o = lent true true o.a.1.0 o.a.1.1
 
 abbrev pub exit : Read → Channel
-exit o = lent o.r.counts o.x.1.1
+exit o = lent true true o.r.counts o.x.1.1
 
 abbrev pub bytes : Read → List ℕ
 bytes o = o.a.0.now

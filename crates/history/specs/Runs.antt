@@ -1,5 +1,5 @@
 -- Running: an outcome of a call of `run::run` or of `run_for::run_for`, any that its contract permits.
-use Rattle.std.specs.Prelude.{ℕ}
+use Rattle.std.specs.Prelude.{ℕ, true, false}
 use Rattle.rule.specs.declared.Answer.{Answer}
 use Rattle.rule.specs.Channel.{Channel}
 use Rattle.rule.specs.Counted.{after}
@@ -17,7 +17,7 @@ abbrev pub RunFor : Type 0
 RunFor = Outcome 7 run-for-kinds.ps run-for-kinds.r run-for-reads.Post
 
 abbrev pub entry : Run → Channel
-entry o = lent o.a.0 o.a.1
+entry o = lent false true o.a.0 o.a.1
 
 abbrev pub exit : Run → Channel
 exit o = left (after o.a.0 o.r.accepted) o.a.1 o.x.1
@@ -30,7 +30,7 @@ abbrev pub most : RunFor → ℕ
 most o = o.a.0
 
 abbrev pub entry_for : RunFor → Channel
-entry_for o = lent o.a.1.0 o.a.1.1
+entry_for o = lent false true o.a.1.0 o.a.1.1
 
 abbrev pub exit_for : RunFor → Channel
 exit_for o = left (after o.a.1.0 o.r.accepted) o.a.1.1 o.x.1.1

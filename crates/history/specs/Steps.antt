@@ -1,4 +1,5 @@
 -- Stepping: an outcome of a call of `step::step`, any that its contract permits.
+use Rattle.std.specs.Prelude.{true, false}
 use Rattle.rule.specs.declared.Answer.{Answer}
 use Rattle.rule.specs.Rows.{Row}
 use Rattle.rule.specs.Channel.{Channel}
@@ -13,7 +14,7 @@ Step = Outcome 8 kinds.ps kinds.r Post
 
 -- the channel at entry, and at exit
 abbrev pub entry : Step → Channel
-entry o = lent o.a.0 o.a.1
+entry o = lent false true o.a.0 o.a.1
 
 abbrev pub exit : Step → Channel
 exit o = left (after o.a.0 o.r.accepted) o.a.1 o.x.1

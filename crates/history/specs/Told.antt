@@ -8,7 +8,7 @@ use Rattle.water.specs.History as rule
 use Rattle.water.specs.History.{after}
 use Rattle.history.specs.Steps as steps
 use Rattle.history.specs.Runs as runs
-use Rattle.history.specs.History.{Link, step, filter, run, run_for_lem, History, none, then, amount, one, poured_by, poured, accepted_by, accepted, calls_by, calls}
+use Rattle.history.specs.History.{Link, step, filter, run, run_for, History, none, then, amount, one, poured_by, poured, accepted_by, accepted, calls_by, calls}
 use Rattle.history.specs.Answers.{Taken, step_amount, step_one, after_append, poured_append, accepts_append, still_poured, run_for_taken, run_taken}
 
 abbrev left : Called Channel → Channel
@@ -37,7 +37,7 @@ told (run o) =
     let c = runs.entry o in
     let t = subst (λ (k : Called Channel). Taken c k.left k.answer.count) (sym o.permitted) (run_taken c) in
     record { is = t.is; pours = still_poured c c.N (runs.answer o).count; counts = t.all }
-told (run_for_lem o) =
+told (run_for o) =
     let c = runs.entry_for o in
     let t = subst (λ (k : Called Channel). Taken c k.left k.answer.count) (sym o.permitted) (run_for_taken (runs.most o) c) in
     record { is = t.is; pours = still_poured c c.N (runs.answer_for o).count; counts = t.all }

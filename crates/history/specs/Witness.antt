@@ -1,9 +1,9 @@
 -- Histories of any calls exist: from every channel each call has an outcome that the library's contract permits, with the rule's
 -- answer and what the rule leaves. So the laws about histories are about something. Assumes nothing.
-use Rattle.std.specs.Prelude.{ℕ, zero, suc, ◌≡◌, refl, List, [], ◌∷◌, ◌++◌, map}
+use Rattle.std.specs.Prelude.{ℕ, Bool, true, false, zero, suc, ◌≡◌, refl, List, [], ◌∷◌, ◌++◌, map}
 use Rattle.std.proofs.Common.{◌∙◌, ap, subst, append_assoc, append-nil}
 use contract.Lifetimes.{Lfts}
-use Rattle.std.specs.Borrow.{Bor}
+use Rattle.std.specs.Borrow.{Bor, MutBor}
 use Rattle.rule.specs.declared.Answer.{Answer}
 use Rattle.rule.specs.Rows.{Row}
 use Rattle.rule.specs.Channel.{Channel}
@@ -14,16 +14,16 @@ use Rattle.answers.specs.Stages.{leaves}
 use Rattle.read.specs.Left.{read_of}
 use Rattle.water.specs.History as rule
 use Rattle.water.specs.History.{Call, next, after}
-use Rattle.history.specs.Lent.{Rows}
+use Rattle.history.specs.Lent.{Lends, Rows}
 use Rattle.history.specs.Makes as makes
 use Rattle.history.specs.History as links
 use Rattle.history.specs.History.{Start, Link, History, none, then, answer, ruled, still, calls_by, calls}
 use Rattle.history.specs.Answers.{run_taken, run_for_taken}
 use Rattle.history.specs.Kept.{answers_are_the_rule's}
-use Rattle.history.specs.AnyCalls.{AnyCall, pour, smooth, run, run_for_lem, on_channel, channel_after, answers_to, calls_of, all_calls, asked_by, asked, answers}
+use Rattle.history.specs.AnyCalls.{AnyCall, pour, smooth, run, run_for, on_channel, channel_after, answers_to, calls_of, all_calls, asked_by, asked, answers}
 use Rattle.history.specs.Basin.{like, still_like, step_like, filter_like, is_like, made_like, make_like}
 
--- lifetimes that end never, and a reference to a value
+-- lifetimes that end never, and a reference to a value, to be read or to be changed
 abbrev pub forever : (n : ℕ) → Lfts n
 forever zero = tt
 forever (suc n) = ([], forever n)
@@ -31,9 +31,16 @@ forever (suc n) = ([], forever n)
 abbrev pub ref : {X : Type 0} → X → Bor X
 ref v = record { ref_ptr = (0, 0); now = v }
 
+abbrev pub mut : {X : Type 0} → X → MutBor X
+mut v = record { ref_ptr = (0, 0); ghost_name = 0; now = v }
+
 -- the rows of a channel, lent
-abbrev rows : {Rest : Type 0} → Channel → Rest → Rows Rest
-rows c rest = (ref c.h, (ref c.e, (ref c.u, (ref c.v, (ref c.Q, (ref c.F, (ref c.damping, rest)))))))
+abbrev row_of : (changed : Bool) → Row → Lends changed
+row_of true r = mut r
+row_of false r = ref r
+
+abbrev rows : (bed cells : Bool) → {Rest : Type 0} → Channel → Rest → Rows bed cells Rest
+rows bed cells c rest = (row_of bed c.h, (row_of cells c.e, (row_of cells c.u, (mut c.v, (mut c.Q, (mut c.F, (row_of bed c.damping, rest)))))))
 
 -- what runs leave
 run_like : (c : Channel) → like c (run_call c).left ≡ (run_call c).left
@@ -56,9 +63,9 @@ step_linked c s =
           links.step
           (record {
             κs = forever 8;
-            a = (counts_of c, rows c (ref s, tt));
+            a = (counts_of c, rows false true c (ref s, tt));
             r = left_of k;
-            x = (counts_of c, rows (like c k.left) (ref s, tt));
+            x = (counts_of c, rows false true (like c k.left) (ref s, tt));
             permitted = ap (leaves k.answer) (step_like c s);
           });
       asks = refl;
@@ -73,9 +80,9 @@ filter_linked c =
           links.filter
           (record {
             κs = forever 7;
-            a = (counts_of c, rows c tt);
+            a = (counts_of c, rows false true c tt);
             r = k.answer;
-            x = (counts_of c, rows (like c k.left) tt);
+            x = (counts_of c, rows false true (like c k.left) tt);
             permitted = ap (leaves k.answer) (filter_like c);
           });
       asks = refl;
@@ -90,15 +97,15 @@ run_linked c =
           links.run
           (record {
             κs = forever 7;
-            a = (counts_of c, rows c tt);
+            a = (counts_of c, rows false true c tt);
             r = left_of k;
-            x = (counts_of c, rows (like c k.left) tt);
+            x = (counts_of c, rows false true (like c k.left) tt);
             permitted = ap (leaves k.answer) (run_like c);
           });
       asks = refl;
     }
 
-run_for_linked : (most : ℕ) (c : Channel) → Linked c (like c (run_for_call most c).left) (run_for_lem most)
+run_for_linked : (most : ℕ) (c : Channel) → Linked c (like c (run_for_call most c).left) (run_for most)
 unfolding asked_by
 run_for_linked most c =
     let k = run_for_call most c in
@@ -107,9 +114,9 @@ run_for_linked most c =
           links.run_for
           (record {
             κs = forever 7;
-            a = (most, (counts_of c, rows c tt));
+            a = (most, (counts_of c, rows false true c tt));
             r = left_of k;
-            x = (most, (counts_of c, rows (like c k.left) tt));
+            x = (most, (counts_of c, rows false true (like c k.left) tt));
             permitted = ap (leaves k.answer) (run_for_like most c);
           });
       asks = refl;
@@ -121,7 +128,7 @@ unfolding on_channel
 any_link c (pour s) = subst (λ d. Linked c d (pour s)) (step_like c s) (step_linked c s)
 any_link c smooth = subst (λ d. Linked c d smooth) (filter_like c) (filter_linked c)
 any_link c run = subst (λ d. Linked c d run) (run_like c) (run_linked c)
-any_link c (run_for_lem most) = subst (λ d. Linked c d (run_for_lem most)) (run_for_like most c) (run_for_linked most c)
+any_link c (run_for most) = subst (λ d. Linked c d (run_for most)) (run_for_like most c) (run_for_linked most c)
 
 -- a link's answer is the rule's to its call
 ruled_is : {c d : Channel} (l : Link c d) → ruled l ≡ on_channel c (asked_by l)
@@ -199,9 +206,9 @@ make_start c z =
     let o : makes.Make =
     record {
       κs = forever 7;
-      a = (counts_of c, rows c tt);
+      a = (counts_of c, rows false false c tt);
       r = left_of k;
-      x = (counts_of c, rows (made_like c k.left) tt);
+      x = (counts_of c, rows false false (made_like c k.left) tt);
       permitted = ap (leaves k.answer) (make_like c);
     } in
     subst Start (make_like c) (links.made o z)
@@ -209,4 +216,4 @@ make_start c z =
 pub read_start : (c : Channel) (s : List ℕ) → AreBytes s → (read_call c s).answer.number ≡ 0 → Start (read_call c s).left
 read_start c s b z =
     let k = read_call c s in
-    links.read (record { κs = forever 8; a = (ref s, (counts_of c, rows c tt)); r = read_of k; x = (ref s, (counts_of c, rows k.left tt)); permitted = (refl, b) }) z
+    links.read (record { κs = forever 8; a = (ref s, (counts_of c, rows true true c tt)); r = read_of k; x = (ref s, (counts_of c, rows true true k.left tt)); permitted = (refl, b) }) z
