@@ -13,7 +13,7 @@ use Rattle.rule.specs.Checks.{checked, is_complete, ready}
 use Rattle.rule.specs.Step as rule
 use Rattle.rule.specs.Calls.{called, step_call}
 use Rattle.answers.specs.Stages.{leaves, early, stage_none, stage_high}
-use Rattle.checks.specs.Numbers.{done_of, refused_of_lem}
+use Rattle.checks.specs.Numbers.{done_of, refused_of_lem, Early}
 use Rattle.checks.specs.Met.{checked_outside}
 use Rattle.checks.specs.Allowed.{Allowed, allowed_of, poured_of}
 use Rattle.store.specs.Levels.{Cells, Levels}
@@ -55,7 +55,7 @@ module _ (c : Channel) (s : Row) where
   -- the three ways that an attempt ends
   pub attempt_checked : (f : Fault) (t : Trial) → f ≡ fault_of checks → (f.number ≡ 0 → ⊥) → Attempted c s (ended (early f) t)
   attempt_checked f t e z =
-      let y = refused_of_lem _ f checks (checked_outside c (s ∷ [])) e z in
+      let y = refused_of_lem Early f checks (checked_outside c (s ∷ [])) e z in
       record {
         is = rw (ne_eqb f.number 0 z) ((λ i. refusal c (y.tells i) (stage_none f.number y.such i)) ∙ step_checked y.why y.is);
         kept = λ d. absurd (z d);

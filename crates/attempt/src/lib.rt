@@ -1,4 +1,6 @@
 // A step but for what it stores: its checks, then its stages.
+#![tactic(auto)]
+
 ghost use Rattle.std.specs.Prelude.{◌≡◌};
 ghost use Rattle.rule.specs.Counted.{counted};
 ghost use Rattle.answers.specs.Stages.{early};
