@@ -14,8 +14,8 @@ use Rattle.answers.specs.Stages.{leaves_bytes}
 use Rattle.packing.specs.Packed.{make_unpacked}
 use Rattle.history.specs.FileRule.{FileCall, pour, smooth, run_for, on_bytes}
 use Rattle.history.specs.FileHistory.{FileStart, made, checked, c_made, c_checked, FileLink, FileHistory, none, then, ruled, call_by}
-use Rattle.history.specs.FileTold.{both, told, lent}
-use Rattle.history.specs.FileKept.{library_file_passes}
+use Rattle.history.proofs.FileTold.{both, told, lent}
+use Rattle.history.proofs.FileKept.{library_file_passes}
 
 -- what a call leaves of bytes are bytes
 by_read : (f : Channel → Called Channel) (s : List ℕ) (m : Outcome Channel) → AreBytes s → AreBytes (on_file f s m).left

@@ -9,7 +9,7 @@ use Rattle.water.specs.History.{after}
 use Rattle.history.specs.Steps as steps
 use Rattle.history.specs.Runs as runs
 use Rattle.history.specs.History.{Link, step, filter, run, run_for, History, none, then, amount, one, poured_by, poured, accepted_by, accepted, calls_by, calls}
-use Rattle.history.specs.Answers.{Taken, step_amount, step_one, after_append, poured_append, accepts_append, still_poured, run_for_taken, run_taken}
+use Rattle.history.proofs.Answers.{Taken, step_amount, step_one, after_append, poured_append, accepts_append, still_poured, run_for_taken, run_taken}
 
 abbrev left : Called Channel → Channel
 left k = k.left

@@ -15,10 +15,10 @@ use Rattle.packing.specs.Packed.{make_unpacked, check_unpacked}
 use Rattle.water.specs.Late.{Timely}
 use Rattle.history.specs.FileRule.{FileCall, pour, smooth, run_for, on_bytes, file_after, heights}
 use Rattle.history.specs.FileLate.{file_timely}
-use Rattle.history.specs.Files.{taken_bounded, make_file_taken, check_taken}
+use Rattle.history.proofs.Files.{taken_bounded, make_file_taken, check_taken}
 use Rattle.history.specs.FileCalls.{Run, entry, exit, check_bytes}
 use Rattle.history.specs.FileHistory.{FileStart, made, checked, c_made, c_checked, FileLink, FileHistory, none, then, poured_by, poured, accepted, answer, ruled, call_by, calls}
-use Rattle.history.specs.FileTold.{both, told, lent, left, all_left}
+use Rattle.history.proofs.FileTold.{both, told, lent, left, all_left}
 
 -- each answer is the rule's, and so are the bytes that are left
 pub file_answers_are_the_rule's : {s t : List ℕ} (l : FileLink s t) → leaves_bytes (answer l) t ≡ ruled l

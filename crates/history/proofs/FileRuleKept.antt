@@ -7,7 +7,7 @@ use Rattle.rule.specs.File.{count_of}
 use Rattle.rule.specs.Calls.{read}
 use Rattle.little.specs.Numbers.{AreBytes}
 use Rattle.history.specs.FileRule.{FileCall, on_bytes, file_after, heights, file_poured_by, file_poured, file_accepted}
-use Rattle.history.specs.Files.{call_left, taken_bounded}
+use Rattle.history.proofs.Files.{call_left, taken_bounded}
 
 -- in any bytes, by any calls: the heights add up to exactly their starting sum and every amount poured in by the accepted steps
 pub file_water_kept : (s : List ℕ) (calls : List FileCall) → heights (file_after s calls) ≡ heights s +ℤ file_poured s calls

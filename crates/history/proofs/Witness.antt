@@ -18,8 +18,8 @@ use Rattle.history.specs.Lent.{Lends, Rows}
 use Rattle.history.specs.Makes as makes
 use Rattle.history.specs.History as links
 use Rattle.history.specs.History.{Start, Link, History, none, then, answer, ruled, still, calls_by, calls}
-use Rattle.history.specs.Answers.{run_taken, run_for_taken}
-use Rattle.history.specs.Kept.{answers_are_the_rule's}
+use Rattle.history.proofs.Answers.{run_taken, run_for_taken}
+use Rattle.history.proofs.Kept.{answers_are_the_rule's}
 use Rattle.history.specs.AnyCalls.{AnyCall, pour, smooth, run, run_for, on_channel, channel_after, answers_to, calls_of, all_calls, asked_by, asked, answers}
 use Rattle.history.specs.Basin.{like, still_like, step_like, filter_like, is_like, made_like, make_like}
 

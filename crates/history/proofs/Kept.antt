@@ -20,7 +20,7 @@ use Rattle.history.specs.History.{Start, made, read, Link, step, filter, run, ru
 use Rattle.history.specs.Starts.{make_starts, read_starts}
 use Rattle.history.specs.Basin.{is_like}
 use Rattle.history.specs.Complete.{step_complete, filter_complete, run_complete, run_for_complete}
-use Rattle.history.specs.Told.{whole}
+use Rattle.history.proofs.Told.{whole}
 
 -- each answer is the rule's, and so is each channel that is left
 pub answers_are_the_rule's : {c d : Channel} (l : Link c d) → leaves (answer l) d ≡ ruled l

@@ -8,13 +8,13 @@ use Rattle.rule.specs.Calls.{Called, packed, check_file, make_file, step_file, f
 use Rattle.little.specs.Numbers.{AreBytes}
 use Rattle.on_file.specs.Ran.{in_buffer, run_leaves}
 use Rattle.packing.specs.Packed.{make_unpacked, check_unpacked}
-use Rattle.history.specs.Witness.{forever, ref, mut}
+use Rattle.history.proofs.Witness.{forever, ref, mut}
 use Rattle.history.specs.FileRule as rule
 use Rattle.history.specs.FileRule.{FileCall, pour, smooth, on_bytes, file_after}
-use Rattle.history.specs.FileOne.{bytes_stay}
+use Rattle.history.proofs.FileOne.{bytes_stay}
 use Rattle.history.specs.FileHistory as links
 use Rattle.history.specs.FileHistory.{FileStart, FileLink, FileHistory, none, then, answer, ruled, call_by, calls}
-use Rattle.history.specs.FileKept.{file_answers_are_the_rule's}
+use Rattle.history.proofs.FileKept.{file_answers_are_the_rule's}
 use Rattle.history.specs.FileAnyCalls.{AnyFileCall, step, filter, run_for, run, c_step, c_filter, c_run, call_of, file_answers_to, asked_by, asked, answers}
 
 -- the running program writes all of what it made

@@ -29,7 +29,7 @@ use Rattle.water.specs.Again.{accepted_passes}
 use Rattle.water.specs.Starts.{make_passes}
 use Rattle.history.specs.History.{amount, one, still}
 use Rattle.history.specs.Basin.{is_like}
-use Rattle.history.specs.Answers.{step_amount, step_one, still_poured, run_for_taken}
+use Rattle.history.proofs.Answers.{step_amount, step_one, still_poured, run_for_taken}
 use Rattle.history.specs.FileRule as files
 use Rattle.history.specs.FileRule.{FileCall, run_for, on_bytes, heights, poured_with, accepted_with, file_poured_by, file_accepted_by}
 

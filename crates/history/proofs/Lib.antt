@@ -1,0 +1,10 @@
+pub mod Answers
+pub mod Told
+pub mod Kept
+pub mod Witness
+pub mod Files
+pub mod FileRuleKept
+pub mod FileTold
+pub mod FileKept
+pub mod FileOne
+pub mod FileWitness
