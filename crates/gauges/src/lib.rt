@@ -1,4 +1,6 @@
 // "Gauges": the calls, on a channel's lent rows and over the bytes of its file. No call changes the channel.
+#![tactic(auto)]
+
 ghost use Rattle.std.specs.Prelude.{◌≡◌};
 ghost use Rattle.rule.specs.Counted.{counted};
 ghost use Rattle.rule.specs.File.{channel_of};

@@ -22,17 +22,17 @@ returns-then-fault-ne0 c =
 pub opened-row-requires : goal.opened-row-requires
 opened-row-requires c =
     let passed : let a = c.args in number_of (feedable (length a.e.now) a.gauges.now) ≡ 0 = sym (numbered c.feed_fault-fault.ensures) ∙ c.if-fault-ne0.false in
-    let long : length c.args.gauges.now ≡ state_length = let a = c.args in (form_passed a.gauges.now (feed_passed a.gauges.now (length a.e.now) (passed)).0).0 in
+    let long : length c.args.gauges.now ≡ state_length = let a = c.args in (form_passed a.gauges.now (feed_passed a.gauges.now (length a.e.now) passed).0).0 in
     long
 
 pub feed-requires : goal.feed-requires
 unfolding gauges_of
 feed-requires c =
     let passed : let a = c.args in number_of (feedable (length a.e.now) a.gauges.now) ≡ 0 = sym (numbered c.feed_fault-fault.ensures) ∙ c.if-fault-ne0.false in
-    let long : length c.args.gauges.now ≡ state_length = let a = c.args in (form_passed a.gauges.now (feed_passed a.gauges.now (length a.e.now) (passed)).0).0 in
+    let long : length c.args.gauges.now ≡ state_length = let a = c.args in (form_passed a.gauges.now (feed_passed a.gauges.now (length a.e.now) passed).0).0 in
     let a = c.args in
     let s = a.gauges.now in
-    let p = feed_passed s (length a.e.now) (passed) in
+    let p = feed_passed s (length a.e.now) passed in
     let row = c.opened-row.ensures in
     record {
       long = ap length row ∙ length_state s;
@@ -45,7 +45,7 @@ feed-requires c =
 pub write_row8-requires : goal.write_row8-requires
 write_row8-requires c =
     let passed : let a = c.args in number_of (feedable (length a.e.now) a.gauges.now) ≡ 0 = sym (numbered c.feed_fault-fault.ensures) ∙ c.if-fault-ne0.false in
-    let long : length c.args.gauges.now ≡ state_length = let a = c.args in (form_passed a.gauges.now (feed_passed a.gauges.now (length a.e.now) (passed)).0).0 in
+    let long : length c.args.gauges.now ≡ state_length = let a = c.args in (form_passed a.gauges.now (feed_passed a.gauges.now (length a.e.now) passed).0).0 in
     let written_long : length c.feed.new.out ≡ state_numbers = ap length c.feed.ensures ∙ length_fed c.args.e.now c.opened-row.result in
     omega (arith, written_long, long)
 
@@ -53,11 +53,11 @@ pub returns : goal.returns
 unfolding state_of gauges_of
 returns c =
     let passed : let a = c.args in number_of (feedable (length a.e.now) a.gauges.now) ≡ 0 = sym (numbered c.feed_fault-fault.ensures) ∙ c.if-fault-ne0.false in
-    let long : length c.args.gauges.now ≡ state_length = let a = c.args in (form_passed a.gauges.now (feed_passed a.gauges.now (length a.e.now) (passed)).0).0 in
+    let long : length c.args.gauges.now ≡ state_length = let a = c.args in (form_passed a.gauges.now (feed_passed a.gauges.now (length a.e.now) passed).0).0 in
     let written_long : length c.feed.new.out ≡ state_numbers = ap length c.feed.ensures ∙ length_fed c.args.e.now c.opened-row.result in
     let a = c.args in
     let s = a.gauges.now in
     let row = c.feed.ensures ∙ ap (λ r. flat (map numbers (map (fed_from a.e.now) (gauges_in r)))) c.opened-row.ensures in
     ap (λ r. leaves_bytes r c.write_row8.new.d) c.accepted.ensures
-    ∙ feed_accepted a.e.now s c.write_row8.new.d (passed)
-    (all_written s c.write_row8.new.d c.feed.new.out (long) (written_long) c.write_row8.ensures ∙ ap (row_bytes 8) row)
+    ∙ feed_accepted a.e.now s c.write_row8.new.d passed
+    (all_written s c.write_row8.new.d c.feed.new.out long written_long c.write_row8.ensures ∙ ap (row_bytes 8) row)

@@ -27,7 +27,7 @@ returns-then-fault-ne0 c =
 pub opened-row-requires : goal.opened-row-requires
 opened-row-requires c =
     let passed : let a = c.args in number_of (placeable a.n a.cell a.gauges.now) ≡ 0 = sym (numbered c.place_fault-fault.ensures) ∙ c.if-fault-ne0.false in
-    let long : length c.args.gauges.now ≡ state_length = let a = c.args in (form_passed a.gauges.now (place_passed a.gauges.now a.n a.cell (passed)).0).0 in
+    let long : length c.args.gauges.now ≡ state_length = let a = c.args in (form_passed a.gauges.now (place_passed a.gauges.now a.n a.cell passed).0).0 in
     long
 
 pub overflow_sub-free : goal.overflow_sub-free
@@ -35,7 +35,7 @@ unfolding passes free gauges_of
 overflow_sub-free c =
     let passed : let a = c.args in number_of (placeable a.n a.cell a.gauges.now) ≡ 0 = sym (numbered c.place_fault-fault.ensures) ∙ c.if-fault-ne0.false in
     let free_is : c.first_not-free.result ≡ free c.args.gauges.now = c.first_not-free.ensures ∙ ap (λ r. lowest taken (gauges_in r)) c.opened-row.ensures in
-    let least : 1 ≤ c.first_not-free.result = let a = c.args in omega (arith, free_is, free_least a.n a.cell a.gauges.now (passed)) in
+    let least : 1 ≤ c.first_not-free.result = let a = c.args in omega (arith, free_is, free_least a.n a.cell a.gauges.now passed) in
     least
 
 pub overflow_mul-free : goal.overflow_mul-free
@@ -48,14 +48,14 @@ overflow_mul-free c =
 pub fresh-requires : goal.fresh-requires
 fresh-requires c =
     let passed : let a = c.args in number_of (placeable a.n a.cell a.gauges.now) ≡ 0 = sym (numbered c.place_fault-fault.ensures) ∙ c.if-fault-ne0.false in
-    omega (arith, c.requires, cell_most c.args.n c.args.cell c.args.gauges.now (passed))
+    omega (arith, c.requires, cell_most c.args.n c.args.cell c.args.gauges.now passed)
 
 pub put_gauge-requires : goal.put_gauge-requires
 unfolding passes free gauges_of
 put_gauge-requires c =
     let passed : let a = c.args in number_of (placeable a.n a.cell a.gauges.now) ≡ 0 = sym (numbered c.place_fault-fault.ensures) ∙ c.if-fault-ne0.false in
     let free_is : c.first_not-free.result ≡ free c.args.gauges.now = c.first_not-free.ensures ∙ ap (λ r. lowest taken (gauges_in r)) c.opened-row.ensures in
-    let least : 1 ≤ c.first_not-free.result = let a = c.args in omega (arith, free_is, free_least a.n a.cell a.gauges.now (passed)) in
+    let least : 1 ≤ c.first_not-free.result = let a = c.args in omega (arith, free_is, free_least a.n a.cell a.gauges.now passed) in
     let most : c.first_not-free.result ≤ 8 = omega (arith, free_is, free_most c.args.gauges.now) in
     let row_long : length c.opened-row.result ≡ state_numbers = ap length c.opened-row.ensures ∙ length_state c.args.gauges.now in
     omega (arith, least, most, row_long)
@@ -64,9 +64,9 @@ pub write_row8-requires : goal.write_row8-requires
 unfolding passes free gauges_of
 write_row8-requires c =
     let passed : let a = c.args in number_of (placeable a.n a.cell a.gauges.now) ≡ 0 = sym (numbered c.place_fault-fault.ensures) ∙ c.if-fault-ne0.false in
-    let long : length c.args.gauges.now ≡ state_length = let a = c.args in (form_passed a.gauges.now (place_passed a.gauges.now a.n a.cell (passed)).0).0 in
+    let long : length c.args.gauges.now ≡ state_length = let a = c.args in (form_passed a.gauges.now (place_passed a.gauges.now a.n a.cell passed).0).0 in
     let free_is : c.first_not-free.result ≡ free c.args.gauges.now = c.first_not-free.ensures ∙ ap (λ r. lowest taken (gauges_in r)) c.opened-row.ensures in
-    let least : 1 ≤ c.first_not-free.result = let a = c.args in omega (arith, free_is, free_least a.n a.cell a.gauges.now (passed)) in
+    let least : 1 ≤ c.first_not-free.result = let a = c.args in omega (arith, free_is, free_least a.n a.cell a.gauges.now passed) in
     let most : c.first_not-free.result ≤ 8 = omega (arith, free_is, free_most c.args.gauges.now) in
     let row_long : length c.opened-row.result ≡ state_numbers = ap length c.opened-row.ensures ∙ length_state c.args.gauges.now in
     let written_long : length c.put_gauge.new.row ≡ state_numbers = ap length c.put_gauge.ensures ∙ length_with c.opened-row.result (8 * (c.first_not-free.result - 1)) c.fresh.result (omega (arith, least, most, row_long)) ∙ row_long in
@@ -76,9 +76,9 @@ pub returns : goal.returns
 unfolding passes free gauges_of
 returns c =
     let passed : let a = c.args in number_of (placeable a.n a.cell a.gauges.now) ≡ 0 = sym (numbered c.place_fault-fault.ensures) ∙ c.if-fault-ne0.false in
-    let long : length c.args.gauges.now ≡ state_length = let a = c.args in (form_passed a.gauges.now (place_passed a.gauges.now a.n a.cell (passed)).0).0 in
+    let long : length c.args.gauges.now ≡ state_length = let a = c.args in (form_passed a.gauges.now (place_passed a.gauges.now a.n a.cell passed).0).0 in
     let free_is : c.first_not-free.result ≡ free c.args.gauges.now = c.first_not-free.ensures ∙ ap (λ r. lowest taken (gauges_in r)) c.opened-row.ensures in
-    let least : 1 ≤ c.first_not-free.result = let a = c.args in omega (arith, free_is, free_least a.n a.cell a.gauges.now (passed)) in
+    let least : 1 ≤ c.first_not-free.result = let a = c.args in omega (arith, free_is, free_least a.n a.cell a.gauges.now passed) in
     let most : c.first_not-free.result ≤ 8 = omega (arith, free_is, free_most c.args.gauges.now) in
     let row_long : length c.opened-row.result ≡ state_numbers = ap length c.opened-row.ensures ∙ length_state c.args.gauges.now in
     let written_long : length c.put_gauge.new.row ≡ state_numbers = ap length c.put_gauge.ensures ∙ length_with c.opened-row.result (8 * (c.first_not-free.result - 1)) c.fresh.result (omega (arith, least, most, row_long)) ∙ row_long in
@@ -90,5 +90,5 @@ returns c =
     ∙ (λ i. written (c.opened-row.ensures i) (8 * (free i - 1)) (numbers (c.fresh.ensures i)))
     ∙ with_is (state_row s) _ (gauge_of (pos a.cell) []) in
     (λ i. leaves_bytes ((c.accepted.ensures ∙ ap acceptance free) i) c.write_row8.new.d)
-    ∙ place_accepted a.n a.cell s c.write_row8.new.d (passed)
-    (all_written s c.write_row8.new.d c.put_gauge.new.row (long) (written_long) c.write_row8.ensures ∙ ap (row_bytes 8) row)
+    ∙ place_accepted a.n a.cell s c.write_row8.new.d passed
+    (all_written s c.write_row8.new.d c.put_gauge.new.row long written_long c.write_row8.ensures ∙ ap (row_bytes 8) row)

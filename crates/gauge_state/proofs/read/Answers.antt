@@ -20,7 +20,7 @@ returns-then-fault-ne0 c =
 pub opened-row-requires : goal.opened-row-requires
 opened-row-requires c =
     let passed : let a = c.args in number_of (readable a.gauges.now (length a.readings.now)) ≡ 0 = sym (numbered c.read_fault-fault.ensures) ∙ c.if-fault-ne0.false in
-    let a = c.args in (form_passed a.gauges.now (read_passed a.gauges.now (length a.readings.now) (passed)).0).0
+    let a = c.args in (form_passed a.gauges.now (read_passed a.gauges.now (length a.readings.now) passed).0).0
 
 pub read-requires : goal.read-requires
 unfolding gauges_of
@@ -28,7 +28,7 @@ read-requires c =
     let passed : let a = c.args in number_of (readable a.gauges.now (length a.readings.now)) ≡ 0 = sym (numbered c.read_fault-fault.ensures) ∙ c.if-fault-ne0.false in
     let a = c.args in
     let s = a.gauges.now in
-    let p = read_passed s (length a.readings.now) (passed) in
+    let p = read_passed s (length a.readings.now) passed in
     let row = c.opened-row.ensures in
     record {
       long = ap length row ∙ length_state s;
@@ -42,5 +42,5 @@ returns c =
     let passed : let a = c.args in number_of (readable a.gauges.now (length a.readings.now)) ≡ 0 = sym (numbered c.read_fault-fault.ensures) ∙ c.if-fault-ne0.false in
     let a = c.args in
     ap (λ t. leaves_row t c.read.new.out) c.accepted.ensures
-    ∙ read_accepted a.gauges.now a.readings.now c.read.new.out (passed)
+    ∙ read_accepted a.gauges.now a.readings.now c.read.new.out passed
     (c.read.ensures ∙ ap (λ row. flat (map reading (gauges_in row))) c.opened-row.ensures)
