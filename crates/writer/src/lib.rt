@@ -1,4 +1,6 @@
 // The channel file: its writer.
+#![tactic(auto)]
+
 ghost use Rattle.std.specs.Prelude.{◌≡◌};
 ghost use Rattle.rule.specs.Counted.{counted};
 ghost use Rattle.rule.specs.Calls.{write_call};
