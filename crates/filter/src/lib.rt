@@ -1,4 +1,6 @@
 // Filtering: the heights and reduced velocities of a channel smoothed, and its newest level worked out again.
+#![tactic(auto)]
+
 ghost use Rattle.std.specs.Prelude.{◌≡◌, []};
 ghost use Rattle.answers.specs.Stages.{leaves};
 ghost use Rattle.rule.specs.Counted.{counted};

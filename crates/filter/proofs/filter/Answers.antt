@@ -32,7 +32,7 @@ allowed : (c : Else-fault-ne0) → Allowed (lent c.before.before)
 allowed c = checks_passed (lent c.before.before) [] (passed c)
 
 abbrev else1 : After-smoothed-trial → Else-fault-ne0
-else1 c = c.before.before
+else1 c = c.before
 
 -- the channel that is lent, and the smoothed rows, from past their checks
 abbrev lent1 : Else-fault-ne0 → Channel
@@ -44,7 +44,7 @@ tried_at c = c.before.before.before
 -- past the checks of the smoothed rows
 worked_out : (c : Else-met-ne0) →
     let l = lent1 (else1 (tried_at c)) in
-    Returned l.N (tried_at c).smoothed.result (tried l (smoothed l.N l.e) (smoothed_reduced l.N l.v))
+    Returned l.N (tried_at c).smoothed-trial.result (tried l (smoothed l.N l.e) (smoothed_reduced l.N l.v))
 worked_out c =
     let s = tried_at c in
     let k = else1 s in
@@ -64,7 +64,7 @@ returns-then-fault-ne0 c =
 
 pub smoothed-trial-requires : goal.smoothed-trial-requires
 smoothed-trial-requires c =
-    let k = c.before.before in
+    let k = c in
     smoothing_of (lent1 k) (allowed k)
 
 pub returns-then-met-ne0 : goal.returns-then-met-ne0

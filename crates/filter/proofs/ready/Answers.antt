@@ -1,7 +1,6 @@
 -- `filter::ready` meets its contract: the checks of the input, then whether the channel is complete. Assumes nothing.
 use mathlib.Core.Path.{◌≡◌, sym, ◌∙◌}
 use mathlib.Core.List.{[]}
-use borrow.Author.Rules.{rules}
 use Rattle.rule.specs.Channel.{Channel}
 use Rattle.rule.specs.Counted.{counted}
 use Rattle.rule.specs.Refusals.{number_of}

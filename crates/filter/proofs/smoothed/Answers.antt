@@ -1,6 +1,5 @@
 -- `filter::smoothed` meets its contract. Assumes nothing.
 use mathlib.Core.Path.{◌∙◌, ap}
-use borrow.Author.Rules.{rules}
 use Rattle.stage.specs.Trials.{trial_of}
 use Rattle.filter.specs.Asked.{tried_asked, tried_are}
 use Rattle.filter.proofs.smoothed.Goals as goal
