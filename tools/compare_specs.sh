@@ -4,7 +4,8 @@
 # The last commit that landed before the port (LANDED in docs/PORT.md) is checked out in a temporary folder, and turned there by port.py and
 # tools/respell.py as the checkout was: so only what was changed by hand since then is left. Printed is the diff from that to CHECKOUT (left
 # out: the one that this script is in), of all crates or of those named: of specs/, of must-fail/, of a program's input and output, and of src/
-# with each function's body left out, so that clauses, signatures, types and constants are compared. Ends with 0 if nothing
+# with each function's body left out, so that clauses, signatures, types and constants are compared. What was moved from a file of specs/
+# to the file of that name in proofs/ is compared as if it stood in specs/ still, below a line that says so. Ends with 0 if nothing
 # differs, 1 if something does, 2 if it could not compare. Takes three to seven minutes; with PORTED=FOLDER the turned
 # commit is kept in FOLDER, and taken from there the next time.
 set -u
@@ -35,7 +36,8 @@ if [ ! -e "$ported/turned" ]; then
 fi
 
 cat > "$room/promised.py" <<'END'
-"""promised.py FROM TO [CRATE..]: copies what a repository promises: of src/ all but the bodies of functions."""
+"""promised.py FROM TO LANDED [CRATE..]: copies what a repository promises: of src/ all but the bodies of functions, and of proofs/
+what has the name of a file of LANDED's specs/."""
 import os
 import re
 import shutil
@@ -82,7 +84,7 @@ def bodiless(text):
     return "".join(out) + text[at:]
 
 
-source, to, crates = sys.argv[1], sys.argv[2], sys.argv[3:]
+source, to, landed, crates = sys.argv[1], sys.argv[2], sys.argv[3], sys.argv[4:]
 for crate in crates or sorted(os.listdir(os.path.join(source, "crates"))):
     for folder, dirs, files in os.walk(os.path.join(source, "crates", crate)):
         dirs[:] = [d for d in dirs if d not in ("out", "proofs")]
@@ -95,8 +97,15 @@ for crate in crates or sorted(os.listdir(os.path.join(source, "crates"))):
                     g.write(bodiless(f.read()))
             else:
                 shutil.copy(path, copy)
+    moved = os.path.join(source, "crates", crate, "proofs")
+    for name in sorted(os.listdir(moved)) if os.path.isdir(moved) else []:
+        spec = os.path.join("crates", crate, "specs", name)
+        if name != "Lib.antt" and os.path.isfile(os.path.join(landed, spec)) and not os.path.samefile(source, landed):
+            os.makedirs(os.path.join(to, "crates", crate, "specs"), exist_ok=True)
+            with open(os.path.join(moved, name), encoding="utf-8") as f, open(os.path.join(to, spec), "a", encoding="utf-8") as g:
+                g.write(f"-- moved to proofs/{name}:\n" + f.read())
 END
 mkdir "$room/landed" "$room/now"
-python3 "$room/promised.py" "$ported/repository" "$room/landed" "$@" || fail "the old commit cannot be read"
-python3 "$room/promised.py" "$top" "$room/now" "$@" || fail "the checkout cannot be read"
+python3 "$room/promised.py" "$ported/repository" "$room/landed" "$ported/repository" "$@" || fail "the old commit cannot be read"
+python3 "$room/promised.py" "$top" "$room/now" "$ported/repository" "$@" || fail "the checkout cannot be read"
 cd "$room" && git diff --no-index --no-prefix landed now
