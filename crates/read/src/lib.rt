@@ -1,4 +1,6 @@
 // Reading into lent rows.
+#![tactic(auto)]
+
 ghost use Rattle.std.specs.Prelude.{◌≡◌, []};
 ghost use Rattle.rule.specs.Counted.{counted};
 ghost use Rattle.rule.specs.Refusals.{fault_of};
