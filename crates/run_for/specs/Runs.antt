@@ -4,7 +4,7 @@ use Rattle.std.proofs.Common.{suc-add, sym, ◌∙◌, ap, add-one, arith, ltb-t
 use Rattle.rule.specs.declared.Answer.{Answer}
 use Rattle.rule.specs.declared.Fault.{Fault}
 use Rattle.rule.specs.Rows.{Row}
-use Rattle.rule.specs.Channel.{Channel, moved, channel}
+use Rattle.rule.specs.Channel.{Channel, moved}
 use Rattle.rule.specs.Refusals.{Refusal, number_of, fault_of, Outcome, refused, done, ◌>>=◌}
 use Rattle.rule.specs.Checks.{checked, is_complete}
 use Rattle.rule.specs.Step.{Stepped, step}
@@ -14,7 +14,7 @@ use Rattle.rule.specs.Ranges.{most_cells, most_steps}
 use Rattle.answers.specs.Stages.{leaves, early, stage_none}
 use Rattle.answers.specs.Ends.{ending_of}
 use Rattle.places.specs.Faults as faults
-use Rattle.checks.specs.Numbers.{number_not_0, numbered, done_of, refused_of_lem}
+use Rattle.checks.specs.Numbers.{number_not_0, numbered, done_of, refused_of_lem, Early}
 use Rattle.checks.specs.Met.{checked_outside}
 use Rattle.checks.specs.Allowed.{allowed_of}
 
@@ -113,7 +113,7 @@ nothing_poured n h =
 -- a run whose channel is refused
 pub run_early : (most : ℕ) (c : Channel) (f : Fault) → f ≡ fault_of (checked c []) → (f.number ≡ 0 → ⊥) → leaves (early f) c ≡ run_for_call most c
 run_early most c f e z =
-    let y = refused_of_lem _ f (checked c []) (checked_outside c []) e z in
+    let y = refused_of_lem Early f (checked c []) (checked_outside c []) e z in
     (λ i. leaves (answer (y.tells i) (stage_none f.number y.such i) 0) c) ∙ run_refused most c y.why y.is
 
 module _ (most : ℕ) (start : Channel) where
