@@ -1,4 +1,6 @@
 // The printing program: the line of a channel file's bytes, put into a lent buffer.
+#![tactic(auto)]
+
 ghost use Rattle.std.specs.Prelude.{◌≡◌, ◌≤◌, length};
 ghost use Rattle.rule.specs.Refusals.{number_of};
 ghost use Rattle.rule.specs.Line.{channel_line};
