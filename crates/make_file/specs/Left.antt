@@ -7,7 +7,7 @@ use Rattle.rule.specs.declared.Answer.{Answer}
 use Rattle.rule.specs.Rows.{Row}
 use Rattle.rule.specs.Ranges.{cells_allowed, least_cells, most_cells}
 use Rattle.rule.specs.Channel.{Channel, rows}
-use Rattle.rule.specs.Refusals.{Outcome, refused, done, number, ◌>>=◌, require}
+use Rattle.rule.specs.Refusals.{Outcome, refused, done, ◌>>=◌, require}
 use Rattle.rule.specs.Make.{make}
 use Rattle.rule.specs.Bytes.{row_at}
 use Rattle.rule.specs.Layout.{length_of}

@@ -1,4 +1,6 @@
 // Making over the bytes of a channel file: the input checks, then 15, then the rest of make.
+#![tactic(auto)]
+
 ghost use Rattle.std.specs.Prelude.{◌≡◌, ◌*◌, ◌≤◌, length};
 ghost use Rattle.rule.specs.Ranges.{most_cells};
 ghost use Rattle.rule.specs.Layout.{length_of};
