@@ -1,5 +1,5 @@
 -- The line stands at the start of its buffer, which has 64 bytes.
-use Rattle.std.proofs.Common.{◌≡◌, ◌≤◌, ℕ, List, length, take, refl, sym, ap, ◌∙◌, arith}
+use Rattle.std.proofs.Common.{◌≡◌, ℕ, List, length, take, refl, sym, ap, ◌∙◌, arith}
 use lib.Seq.{take_at}
 use Rattle.little.specs.Written.{written}
 use Rattle.line.specs.Held.{still_64}
