@@ -9,7 +9,7 @@ use Rattle.rule.specs.Ranges.{cells_allowed, most_cells}
 use Rattle.rule.specs.Channel.{Channel, rows, lengths, water}
 use Rattle.rule.specs.Coefficients.{coefficients}
 use Rattle.rule.specs.Refusals.{place, shape, counts, depthValue, heightValue, velocityValue, reducedValue, fluxValue, accelerationValue, dampingValue, pouredValue, depth, timeStep, dominance, complete}
-use Rattle.rule.specs.Checks.{long, deep, timed, wet, pourable, shaped, allowed, checked, is_complete, ready}
+use Rattle.rule.specs.Checks.{long, deep, timed, wet, pourable, shaped, allowed, checked, ready}
 use Rattle.rule.specs.Make.{make_checked}
 use Rattle.checks.specs.Tests.{both}
 use Rattle.checks.specs.Facts.{LengthsOf, cells_few, long_four}

@@ -1,4 +1,6 @@
 // An answer in one number, as C is given it.
+#![tactic(auto)]
+
 ghost use Rattle.std.specs.Prelude.{◌≡◌};
 ghost use Rattle.rule.specs.Calls.{packed};
 ghost use Rattle.packing.specs.Small.{Small};
