@@ -1,4 +1,6 @@
 // A run over lent rows: steps with nothing poured, until complete or refused. It keeps what was accepted.
+#![tactic(auto)]
+
 ghost use Rattle.std.specs.Prelude.{◌≡◌};
 ghost use Rattle.rule.specs.Counted.{counted, left};
 ghost use Rattle.rule.specs.Calls.{run_call};
