@@ -9,24 +9,15 @@ use Rattle.places.specs.Lowest.{lowest_zero}
 use Rattle.checks.specs.Facts.{is_deep}
 use Rattle.stage.specs.Tried.{kept_long, too_high, too_shallow, too_fast, Passed, solve_asked, unsolved, Solution, solution, flux_asked, damped_asked, unbounded, worked_out}
 use Rattle.stage.proofs.tried.Goals as goal
-use Rattle.stage.proofs.tried.Goals.{Else-not-all_within, Else-not-low, Else-not-wet, Else-solved-ne0}
+use Rattle.stage.proofs.tried.Goals.{Else-not-all_within, Else-solved-ne0}
 
 -- what each check says
-high : (c : Else-not-low) → small most_height (firsts c.args.n c.args.e) ≡ true
-high c = sym c.before.before.before.all_within-low.ensures ∙ c.if-not-low.false
-
-wet : (c : Else-not-wet) → is_deep c.args.n c.args.h.now c.args.e ≡ true
-wet c =
-    let dry = c.before.before.lowest_dry-dry in
-    lowest_zero _ _ (sym dry.ensures ∙ c.if-not-wet.false)
-
 passed : (c : Else-not-all_within) → let a = c.args in Passed a.n a.x a.h.now a.e a.v a.damping.now
 passed c =
-    let d = c.before.before.before in
     record {
-      high = high d.before;
-      wet = wet d;
-      fast = sym c.before.all_within.ensures ∙ c.if-not-all_within.false;
+      high = sym c.all_within-low.ensures ∙ c.if-not-low.false;
+      wet = lowest_zero _ _ (sym c.lowest_dry-dry.ensures ∙ c.if-not-wet.false);
+      fast = sym c.all_within.ensures ∙ c.if-not-all_within.false;
     }
 
 abbrev checked : Else-solved-ne0 → Else-not-all_within
@@ -41,23 +32,21 @@ solved c =
 
 pub returns-then-not-low : goal.returns-then-not-low
 returns-then-not-low c =
-    let d = c.before.before.before.before in
-    let a = d.before.before.args in
-    c.refusal.ensures ∙ too_high a.n a.x a.h.now a.e a.v a.damping.now (sym d.all_within-low.ensures ∙ c.before.if-not-low.true)
+    let a = c.args in
+    c.refusal.ensures ∙ too_high a.n a.x a.h.now a.e a.v a.damping.now (sym c.all_within-low.ensures ∙ c.if-not-low.true)
 
 pub returns-then-not-wet : goal.returns-then-not-wet
 returns-then-not-wet c =
-    let i = c.before.before in
-    let a = i.args in
-    let dry = i.before.lowest_dry-dry in
-    c.refusal-then-not-wet.ensures ∙ too_shallow a.n a.x a.h.now a.e a.v a.damping.now (high i) dry.result dry.ensures c.before.if-not-wet.true
+    let a = c.args in
+    let dry = c.lowest_dry-dry in
+    c.refusal-then-not-wet.ensures
+    ∙ too_shallow a.n a.x a.h.now a.e a.v a.damping.now (sym c.all_within-low.ensures ∙ c.if-not-low.false) dry.result dry.ensures c.if-not-wet.true
 
 pub returns-then-not-all_within : goal.returns-then-not-all_within
 returns-then-not-all_within c =
-    let d = c.before.before in
-    let i = d.before.before in
-    let a = i.args in
-    c.refusal-then-not-all_within.ensures ∙ too_fast a.n a.x a.h.now a.e a.v a.damping.now (high i.before) (wet i) (sym d.all_within.ensures ∙ c.before.if-not-all_within.true)
+    let a = c.args in
+    c.refusal-then-not-all_within.ensures
+    ∙ too_fast a.n a.x a.h.now a.e a.v a.damping.now (sym c.all_within-low.ensures ∙ c.if-not-low.false) (lowest_zero _ _ (sym c.lowest_dry-dry.ensures ∙ c.if-not-wet.false)) (sym c.all_within.ensures ∙ c.if-not-all_within.true)
 
 pub solve-solved-requires : goal.solve-solved-requires
 solve-solved-requires c =
