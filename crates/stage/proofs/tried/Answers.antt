@@ -1,12 +1,7 @@
 -- `stage::tried` meets its contract: the ways out of the checks, in their order. Assumes nothing.
-use mathlib.Core.Path.{◌≡◌, sym, ◌∙◌}
-use mathlib.Core.Bool.{true}
+use mathlib.Core.Path.{sym, ◌∙◌}
 use native.Mathlib.Omega.{arith}
-use Rattle.rule.specs.Checks.{small}
-use Rattle.rule.specs.Ranges.{most_height}
-use Rattle.rows.specs.Firsts.{firsts}
 use Rattle.places.specs.Lowest.{lowest_zero}
-use Rattle.checks.specs.Facts.{is_deep}
 use Rattle.stage.specs.Tried.{kept_long, too_high, too_shallow, too_fast, Passed, solve_asked, unsolved, Solution, solution, flux_asked, damped_asked, unbounded, worked_out}
 use Rattle.stage.proofs.tried.Goals as goal
 use Rattle.stage.proofs.tried.Goals.{Else-not-all_within, Else-solved-ne0}
