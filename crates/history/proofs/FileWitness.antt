@@ -88,7 +88,7 @@ goes_on {s} {t} before ruled given b m (ask ∷ asks) =
     let e : answer w.link ≡ k.answer = answer_is w.link ∙ ap (λ x. (on_bytes t x).answer) c in
     let n : FileMade s k.left (before ++ (ask ∷ [])) (ruled ++ (call ∷ [])) (given ++ (k.answer ∷ [])) =
     record { history = then m.history w.link; asks = rw (m.asks, w.asks); calls = rw (m.calls, c); answers = rw (m.answers, e) } in
-    rw (append_assoc, append_assoc, append_assoc) at (goes_on (before ++ (ask ∷ [])) (ruled ++ (call ∷ [])) (given ++ (k.answer ∷ [])) (bytes_stay t call b) n asks)
+    rw (append_assoc, append_assoc, append_assoc) at (goes_on {s = s} {t = k.left} (before ++ (ask ∷ [])) (ruled ++ (call ∷ [])) (given ++ (k.answer ∷ [])) (bytes_stay t call b) n asks)
 
 pub any_file_history : (s : List ℕ) → AreBytes s → (asks : List AnyFileCall) → let ruled = map call_of asks in FileMade s (file_after s ruled) asks ruled (file_answers_to s ruled)
 unfolding asked calls answers

@@ -5,9 +5,9 @@ use Rattle.std.proofs.Common.{◌∙◌, arith, ne_eqb}
 use mathlib.Core.List.{List, [], ◌∷◌}
 use Rattle.std.proofs.Math.IntN.{+ℤ_idr}
 use Rattle.rule.specs.declared.Answer.{Answer}
-use Rattle.rule.specs.Rows.{Row, all, same, sum}
+use Rattle.rule.specs.Rows.{Row, sum}
 use Rattle.rule.specs.Channel.{Channel}
-use Rattle.rule.specs.Refusals.{Refusal, Outcome, refused, done, number_of, shape, counts, bufferLength}
+use Rattle.rule.specs.Refusals.{Refusal, Outcome, refused, done, number_of, shape, bufferLength}
 use Rattle.rule.specs.Checks.{checked}
 use Rattle.rule.specs.Make.{make_checked}
 use Rattle.rule.specs.Layout.{length_of}

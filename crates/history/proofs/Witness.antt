@@ -167,7 +167,7 @@ goes_on {c} {d} before ruled given m (ask ∷ asking) =
     let r : calls_by w.link ≡ calls_of d ask = calls_are w.link ∙ ap (calls_of d) w.asks in
     let n : Made c k.left (before ++ (ask ∷ [])) (ruled ++ calls_of d ask) (given ++ (k.answer ∷ [])) =
     record { history = then m.history w.link; asks = rw (m.asks, w.asks); calls = rw (m.calls, r); answers = rw (m.answers, e) } in
-    rw (append_assoc, append_assoc, append_assoc) at (goes_on (before ++ (ask ∷ [])) (ruled ++ calls_of d ask) (given ++ (k.answer ∷ [])) n asking)
+    rw (append_assoc, append_assoc, append_assoc) at (goes_on {c = c} {d = k.left} (before ++ (ask ∷ [])) (ruled ++ calls_of d ask) (given ++ (k.answer ∷ [])) n asking)
 
 pub any_history : (c : Channel) (asking : List AnyCall) → Made c (channel_after c asking) asking (all_calls c asking) (answers_to c asking)
 unfolding asked calls answers
