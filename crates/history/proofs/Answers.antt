@@ -16,6 +16,7 @@ use Rattle.water.specs.Calls.{step_accepted}
 use Rattle.water.specs.History as rule
 use Rattle.water.specs.History.{Call, pour, next, after, taken}
 use Rattle.history.specs.History.{amount, one, still}
+use Rattle.history.specs.Answers.{Taken, More}
 
 module _ (c : Channel) (s : Row) where
   by_outcome : (o : Outcome Stepped) → let r = (called c (λ t. t.passes) (λ t. t.channel) o).answer in (taken s o ≡ amount r s) × (rule.one o ≡ one r)
@@ -67,16 +68,6 @@ still_poured c n (suc k) =
     ap (λ t. t +ℤ rule.poured (next c (pour (nothing n))) (still n k)) (none_taken n (step c (nothing n)))
     ∙ +ℤ_idl (rule.poured (next c (pour (nothing n))) (still n k))
     ∙ still_poured (next c (pour (nothing n))) n k
-
--- a run is k steps with nothing poured, all accepted
-pub record Taken (c left : Channel) (k : ℕ) : Type 0 where
-  pub is : left ≡ after c (still c.N k)
-  pub all : rule.accepts c (still c.N k) ≡ k
-
-pub record More (c : Channel) (count : ℕ) (it : Ran) : Type 0 where
-  pub k : ℕ
-  pub counted : it.count ≡ count + k
-  pub taken : Taken c it.channel k
 
 no_more : (c : Channel) (count : ℕ) (ending : Ending) → More c count (record { channel = c; count = count; ending = ending })
 unfolding after rule.accepts

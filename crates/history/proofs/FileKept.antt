@@ -10,7 +10,7 @@ use Rattle.rule.specs.Calls.{Called, read, make_file}
 use Rattle.little.specs.Numbers.{AreBytes}
 use Rattle.answers.specs.Stages.{leaves_bytes}
 use Rattle.on_file.specs.Ran.{run_leaves, run_writes_all, run_writes_none}
-use Rattle.on_file.specs.Stays.{Refused, Stepless, step_refused_file_stays, filter_refused_file_stays, stepless_run_file_stays}
+use Rattle.on_file.specs.Stays.{step_refused_file_stays, filter_refused_file_stays, stepless_run_file_stays}
 use Rattle.packing.specs.Packed.{make_unpacked, check_unpacked}
 use Rattle.water.specs.Late.{Timely}
 use Rattle.history.specs.FileRule.{FileCall, pour, smooth, run_for, on_bytes, file_after, heights}
@@ -19,6 +19,7 @@ use Rattle.history.proofs.Files.{taken_bounded, make_file_taken, check_taken}
 use Rattle.history.specs.FileCalls.{Run, entry, exit, check_bytes}
 use Rattle.history.specs.FileHistory.{FileStart, made, checked, c_made, c_checked, FileLink, FileHistory, none, then, poured_by, poured, accepted, answer, ruled, call_by, calls}
 use Rattle.history.proofs.FileTold.{both, told, lent, left, all_left}
+use Rattle.history.specs.FileKept.{Idle, Writes}
 
 -- each answer is the rule's, and so are the bytes that are left
 pub file_answers_are_the_rule's : {s t : List ℕ} (l : FileLink s t) → leaves_bytes (answer l) t ≡ ruled l
@@ -58,12 +59,6 @@ library_file_complete_stays (then h l) e =
     let p = library_file_complete_stays h e in
     (left l).stays (lent l) (ap (λ x. count_of x 4) p ∙ e ∙ ap (λ x. count_of x 5) (sym p)) ∙ p
 
--- a step or a filter pass that answers a refusal, and a run that took no step
-abbrev pub Idle : FileCall → Answer → Type 0
-Idle (pour p) r = Refused r
-Idle smooth r = Refused r
-Idle (run_for most) r = Stepless r
-
 idle : (s : List ℕ) (call : FileCall) → AreBytes s → Idle call (on_bytes s call).answer → (on_bytes s call).left ≡ s
 unfolding on_bytes
 idle s (pour p) b w = step_refused_file_stays s b p w
@@ -76,11 +71,6 @@ unfolding ruled
 library_file_refused_stays {s} l w =
     ap (λ (k : Called (List ℕ)). k.left) (told l)
     ∙ idle s (call_by l) (lent l) (subst (λ (k : Called (List ℕ)). Idle (call_by l) k.answer) (told l) w)
-
--- the running program's call answers how many bytes to write: all that it leaves where the reader takes what it was lent, else none
-pub record Writes (s t : List ℕ) (n : ℕ) : Type 0 where
-  pub all : number_of (read s) ≡ 0 → n ≡ length t
-  pub nothing : (number_of (read s) ≡ 0 → ⊥) → n ≡ 0
 
 pub library_program_writes : (o : Run) → Writes (entry o) (exit o) o.r
 library_program_writes o =

@@ -16,6 +16,7 @@ use Rattle.history.specs.FileRule.{FileCall, pour, smooth, run_for, on_bytes}
 use Rattle.history.specs.FileHistory.{FileStart, made, checked, c_made, c_checked, FileLink, FileHistory, none, then, ruled, call_by}
 use Rattle.history.proofs.FileTold.{both, told, lent}
 use Rattle.history.proofs.FileKept.{library_file_passes}
+use Rattle.history.specs.FileOne.{OneFile}
 
 -- what a call leaves of bytes are bytes
 by_read : (f : Channel → Called Channel) (s : List ℕ) (m : Outcome Channel) → AreBytes s → AreBytes (on_file f s m).left
@@ -55,12 +56,6 @@ start_bytes (c_checked o z) = o.permitted.1
 history_bytes : {s t : List ℕ} → FileStart s → FileHistory s t → AreBytes t
 history_bytes start none = start_bytes start
 history_bytes start (then h l) = left_bytes l
-
--- bytes that are read as a channel, and are its file
-pub record OneFile (s : List ℕ) : Type 0 where
-  pub channel : Channel
-  pub is : read s ≡ done channel
-  pub file : file_of channel ≡ s
 
 one_of : (s : List ℕ) (m : Outcome Channel) → read s ≡ m → number_of m ≡ 0 → AreBytes s → OneFile s
 unfolding read number_of

@@ -9,7 +9,8 @@ use Rattle.answers.specs.Stages.{leaves_bytes}
 use Rattle.on_file.specs.Ran.{run_leaves}
 use Rattle.packing.specs.Packed.{step_unpacked, filter_unpacked, run_unpacked}
 use Rattle.history.specs.FileRule.{FileCall, on_bytes, file_after, poured_with, accepted_with, file_poured_by, file_accepted_by}
-use Rattle.history.proofs.Files.{Left, call_left}
+use Rattle.history.specs.Files.{Left}
+use Rattle.history.proofs.Files.{call_left}
 use Rattle.history.specs.FileCalls.{step_entry, step_row, entry, c_run_most, c_run_entry}
 use Rattle.history.specs.FileHistory.{FileLink, step, filter, run_for, run, c_step, c_filter, c_run, FileHistory, none, then, poured_by, accepted_by, answer, ruled, call_by, calls}
 

@@ -8,7 +8,7 @@ use Rattle.rule.specs.Calls.{Called, packed, check_file, make_file, step_file, f
 use Rattle.little.specs.Numbers.{AreBytes}
 use Rattle.on_file.specs.Ran.{in_buffer, run_leaves}
 use Rattle.packing.specs.Packed.{make_unpacked, check_unpacked}
-use Rattle.history.proofs.Witness.{forever, ref, mut}
+use Rattle.history.specs.Witness.{forever, ref, mut}
 use Rattle.history.specs.FileRule as rule
 use Rattle.history.specs.FileRule.{FileCall, pour, smooth, on_bytes, file_after}
 use Rattle.history.proofs.FileOne.{bytes_stay}
@@ -16,17 +16,13 @@ use Rattle.history.specs.FileHistory as links
 use Rattle.history.specs.FileHistory.{FileStart, FileLink, FileHistory, none, then, answer, ruled, call_by, calls}
 use Rattle.history.proofs.FileKept.{file_answers_are_the_rule's}
 use Rattle.history.specs.FileAnyCalls.{AnyFileCall, step, filter, run_for, run, c_step, c_filter, c_run, call_of, file_answers_to, asked_by, asked, answers}
+use Rattle.history.specs.FileWitness.{Linked, FileMade, FileCalled}
 
 -- the running program writes all of what it made
 written : (s t : List ℕ) → take (length t) (in_buffer s t) ≡ t
 unfolding in_buffer
 written s [] = refl
 written s (b ∷ t) = take-length (b ∷ t)
-
--- one call, from s to t
-pub record Linked (s t : List ℕ) (call : AnyFileCall) : Type 0 where
-  pub link : FileLink s t
-  pub asks : asked_by link ≡ call
 
 -- from all bytes, by every call, to what the rule leaves
 pub any_file_link : (s : List ℕ) → AreBytes s → (call : AnyFileCall) → Linked s (on_bytes s (call_of call)).left call
@@ -69,13 +65,6 @@ answer_is : {s t : List ℕ} (l : FileLink s t) → answer l ≡ (on_bytes s (ca
 unfolding ruled
 answer_is l = ap (λ (k : Called (List ℕ)). k.answer) (file_answers_are_the_rule's l)
 
--- a history from s to t of these calls, the rule's for them, which answer so
-pub record FileMade (s t : List ℕ) (asking : List AnyFileCall) (ruled : List FileCall) (given : List Answer) : Type 0 where
-  pub history : FileHistory s t
-  pub asks : asked history ≡ asking
-  pub calls : calls history ≡ ruled
-  pub answers : answers history ≡ given
-
 -- from all bytes, by any calls one after the other, to what the rule leaves, with the rule's answers
 goes_on : {s t : List ℕ} (before : List AnyFileCall) (ruled : List FileCall) (given : List Answer) → AreBytes t → FileMade s t before ruled given → (asks : List AnyFileCall) → let more = map call_of asks in FileMade s (file_after t more) (before ++ asks) (ruled ++ more) (given ++ file_answers_to t more)
 unfolding file_after file_answers_to asked calls answers
@@ -106,11 +95,6 @@ plain_is [] = refl
 plain_is (pour p ∷ calls) = ap (λ x. pour p ∷ x) (plain_is calls)
 plain_is (smooth ∷ calls) = ap (λ x. smooth ∷ x) (plain_is calls)
 plain_is (rule.run_for most ∷ calls) = ap (λ x. rule.run_for most ∷ x) (plain_is calls)
-
-pub record FileCalled (s : List ℕ) (asking : List FileCall) : Type 0 where
-  pub history : FileHistory s (file_after s asking)
-  pub calls : calls history ≡ asking
-  pub answers : answers history ≡ file_answers_to s asking
 
 pub any_file_calls : (s : List ℕ) → AreBytes s → (calls : List FileCall) → FileCalled s calls
 any_file_calls s b calls =

@@ -1,5 +1,5 @@
 -- Water is kept: one call over the bytes of a channel file, told by what it does to the channel in them. Assumes nothing.
-use Rattle.std.specs.Prelude.{ℕ, ◌+◌, ◌≤◌, ◌≡◌, refl, Bool, true, ◌&&◌, eqb, ℤ, pos, ◌+ℤ◌, length}
+use Rattle.std.specs.Prelude.{ℕ, ◌≤◌, ◌≡◌, refl, Bool, true, ◌&&◌, eqb, ℤ, pos, ◌+ℤ◌, length}
 use Rattle.std.proofs.Math.Path.{sym, ap}
 use Rattle.std.proofs.Common.{◌∙◌, arith, ne_eqb}
 use mathlib.Core.List.{List, [], ◌∷◌}
@@ -14,7 +14,6 @@ use Rattle.rule.specs.Layout.{length_of}
 use Rattle.rule.specs.File.{edition, count_of, channel_of, file_of, read_with}
 use Rattle.rule.specs.Calls.{Called, called, read, check_file, make_file, row_in, holds, on_file, step_call, filter_call, run_for_call, step_file, filter_file, run_for_file}
 use Rattle.answers.specs.Stages.{refusal}
-use Rattle.little.specs.Numbers.{AreBytes}
 use Rattle.checks.specs.Numbers.{told, number_not_0, number_of_done}
 use Rattle.checks.specs.Chain.{came, came_by}
 use Rattle.checks.specs.Allowed.{allowed_of, unpoured}
@@ -32,33 +31,11 @@ use Rattle.history.specs.Basin.{is_like}
 use Rattle.history.proofs.Answers.{step_amount, step_one, still_poured, run_for_taken}
 use Rattle.history.specs.FileRule as files
 use Rattle.history.specs.FileRule.{FileCall, run_for, on_bytes, heights, poured_with, accepted_with, file_poured_by, file_accepted_by}
-
--- the counts, the heights and the damping of a channel, in its file
-pub record In (s : List ℕ) (c : Channel) : Type 0 where
-  pub heights : heights s ≡ sum c.e
-  pub accepted : count_of s 4 ≡ c.accepted
-  pub wanted : count_of s 5 ≡ c.wanted
-  pub damping : (channel_of s).damping ≡ c.damping
+use Rattle.history.specs.Files.{In, Left, Moves}
 
 in_of : (s : List ℕ) (c : Channel) → channel_of s ≡ c → In s c
 unfolding heights channel_of
 in_of s c e = record { heights = ap (λ d. sum d.e) e; accepted = ap (λ d. d.accepted) e; wanted = ap (λ d. d.wanted) e; damping = ap (λ d. d.damping) e }
-
--- what a call leaves of the bytes s
-pub record Left (s left : List ℕ) (z : ℤ) (k : ℕ) : Type 0 where
-  pub water : heights left ≡ heights s +ℤ z
-  pub grown : count_of left 4 ≡ count_of s 4 + k
-  pub same : count_of left 5 ≡ count_of s 5
-  pub damped : (channel_of left).damping ≡ (channel_of s).damping
-  pub taken : number_of (read s) ≡ 0 → number_of (read left) ≡ 0
-  pub stays : AreBytes s → count_of s 4 ≡ count_of s 5 → left ≡ s
-
--- a call f on a channel is the rule's calls, with what they pour and count
-record Moves (f : Channel → Called Channel) (z : Answer → ℤ) (k : Answer → ℕ) (c : Channel) : Type 0 where
-  calls : List Call
-  is : (f c).left ≡ after c calls
-  pours : rule.poured c calls ≡ z (f c).answer
-  counts : rule.accepts c calls ≡ k (f c).answer
 
 module _ (f : Channel → Called Channel) (z : Answer → ℤ) (k : Answer → ℕ) (moves : (c : Channel) → Moves f z k c) (none : (r : Refusal) (stage : ℕ) → (z (refusal (told r) stage) ≡ pos 0) × (k (refusal (told r) stage) ≡ 0)) (s : List ℕ) (fits : ℕ → Bool) (given : List Row) where
   by_read : (m : Outcome Channel) → read_with fits given s ≡ m → Left s (on_file f s m).left (z (on_file f s m).answer) (k (on_file f s m).answer)

@@ -1,5 +1,5 @@
 -- Water is kept: each call of the library as the rule's calls that it stands for. Assumes nothing.
-use Rattle.std.specs.Prelude.{◌≡◌, refl, ◌+ℤ◌}
+use Rattle.std.specs.Prelude.{refl, ◌+ℤ◌}
 use Rattle.std.proofs.Common.{sym, ◌∙◌, ap, subst, arith}
 use Rattle.std.proofs.Math.IntN.{+ℤ_idr}
 use Rattle.rule.specs.Channel.{Channel}
@@ -9,16 +9,12 @@ use Rattle.water.specs.History.{after}
 use Rattle.history.specs.Steps as steps
 use Rattle.history.specs.Runs as runs
 use Rattle.history.specs.History.{Link, step, filter, run, run_for, History, none, then, amount, one, poured_by, poured, accepted_by, accepted, calls_by, calls}
-use Rattle.history.proofs.Answers.{Taken, step_amount, step_one, after_append, poured_append, accepts_append, still_poured, run_for_taken, run_taken}
+use Rattle.history.specs.Answers.{Taken}
+use Rattle.history.proofs.Answers.{step_amount, step_one, after_append, poured_append, accepts_append, still_poured, run_for_taken, run_taken}
+use Rattle.history.specs.Told.{Told, Whole}
 
 abbrev left : Called Channel → Channel
 left k = k.left
-
--- with what it pours and counts there
-pub record Told {c d : Channel} (l : Link c d) : Type 0 where
-  pub is : d ≡ after c (calls_by l)
-  pub pours : rule.poured c (calls_by l) ≡ poured_by l
-  pub counts : rule.accepts c (calls_by l) ≡ accepted_by l
 
 told : {c d : Channel} (l : Link c d) → Told l
 unfolding calls_by poured_by accepted_by after rule.next rule.poured rule.accepts rule.poured_by rule.accepted_by
@@ -41,12 +37,6 @@ told (run_for o) =
     let c = runs.entry_for o in
     let t = subst (λ (k : Called Channel). Taken c k.left k.answer.count) (sym o.permitted) (run_for_taken (runs.most o) c) in
     record { is = t.is; pours = still_poured c c.N (runs.answer_for o).count; counts = t.all }
-
--- and of all calls of a history
-pub record Whole {c d : Channel} (h : History c d) : Type 0 where
-  pub is : d ≡ after c (calls h)
-  pub pours : rule.poured c (calls h) ≡ poured h
-  pub counts : rule.accepts c (calls h) ≡ accepted h
 
 pub whole : {c d : Channel} (h : History c d) → Whole h
 unfolding calls poured accepted after rule.poured rule.accepts

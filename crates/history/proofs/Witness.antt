@@ -1,9 +1,7 @@
 -- Histories of any calls exist: from every channel each call has an outcome that the library's contract permits, with the rule's
 -- answer and what the rule leaves. So the laws about histories are about something. Assumes nothing.
-use Rattle.std.specs.Prelude.{ℕ, Bool, true, false, zero, suc, ◌≡◌, refl, List, [], ◌∷◌, ◌++◌, map}
+use Rattle.std.specs.Prelude.{ℕ, true, false, ◌≡◌, refl, List, [], ◌∷◌, ◌++◌, map}
 use Rattle.std.proofs.Common.{◌∙◌, ap, subst, append_assoc, append-nil}
-use contract.Lifetimes.{Lfts}
-use Rattle.std.specs.Borrow.{Bor, MutBor}
 use Rattle.rule.specs.declared.Answer.{Answer}
 use Rattle.rule.specs.Rows.{Row}
 use Rattle.rule.specs.Channel.{Channel}
@@ -14,7 +12,6 @@ use Rattle.answers.specs.Stages.{leaves}
 use Rattle.read.specs.Left.{read_of}
 use Rattle.water.specs.History as rule
 use Rattle.water.specs.History.{Call, next, after}
-use Rattle.history.specs.Lent.{Lends, Rows}
 use Rattle.history.specs.Makes as makes
 use Rattle.history.specs.History as links
 use Rattle.history.specs.History.{Start, Link, History, none, then, answer, ruled, still, calls_by, calls}
@@ -22,25 +19,7 @@ use Rattle.history.proofs.Answers.{run_taken, run_for_taken}
 use Rattle.history.proofs.Kept.{answers_are_the_rule's}
 use Rattle.history.specs.AnyCalls.{AnyCall, pour, smooth, run, run_for, on_channel, channel_after, answers_to, calls_of, all_calls, asked_by, asked, answers}
 use Rattle.history.specs.Basin.{like, still_like, step_like, filter_like, is_like, made_like, make_like}
-
--- lifetimes that end never, and a reference to a value, to be read or to be changed
-abbrev pub forever : (n : ℕ) → Lfts n
-forever zero = tt
-forever (suc n) = ([], forever n)
-
-abbrev pub ref : {X : Type 0} → X → Bor X
-ref v = record { ref_ptr = (0, 0); now = v }
-
-abbrev pub mut : {X : Type 0} → X → MutBor X
-mut v = record { ref_ptr = (0, 0); ghost_name = 0; now = v }
-
--- the rows of a channel, lent
-abbrev row_of : (changed : Bool) → Row → Lends changed
-row_of true r = mut r
-row_of false r = ref r
-
-abbrev rows : (bed cells : Bool) → {Rest : Type 0} → Channel → Rest → Rows bed cells Rest
-rows bed cells c rest = (row_of bed c.h, (row_of cells c.e, (row_of cells c.u, (mut c.v, (mut c.Q, (mut c.F, (row_of bed c.damping, rest)))))))
+use Rattle.history.specs.Witness.{forever, ref, rows, Linked, Made, RuleMade}
 
 -- what runs leave
 run_like : (c : Channel) → like c (run_call c).left ≡ (run_call c).left
@@ -48,11 +27,6 @@ run_like c = is_like c (run_call c).left _ (run_taken c).is
 
 run_for_like : (most : ℕ) (c : Channel) → like c (run_for_call most c).left ≡ (run_for_call most c).left
 run_for_like most c = is_like c (run_for_call most c).left _ (run_for_taken most c).is
-
--- one call, from c to d
-pub record Linked (c d : Channel) (call : AnyCall) : Type 0 where
-  pub link : Link c d
-  pub asks : asked_by link ≡ call
 
 step_linked : (c : Channel) (s : Row) → Linked c (like c (step_call c s).left) (pour s)
 unfolding asked_by
@@ -149,13 +123,6 @@ calls_are (links.filter o) = refl
 calls_are {c} (links.run o) = ap (λ (k : Called Channel). still c.N k.answer.count) o.permitted
 calls_are {c} (links.run_for o) = ap (λ (k : Called Channel). still c.N k.answer.count) o.permitted
 
--- a history from c to d of these calls, the rule's for them, which answer so
-pub record Made (c d : Channel) (asking : List AnyCall) (ruled : List Call) (given : List Answer) : Type 0 where
-  pub history : History c d
-  pub asks : asked history ≡ asking
-  pub calls : calls history ≡ ruled
-  pub answers : answers history ≡ given
-
 -- from every channel, by any calls one after the other, to what the rule leaves, with the rule's answers
 goes_on : {c d : Channel} (before : List AnyCall) (ruled : List Call) (given : List Answer) → Made c d before ruled given → (asking : List AnyCall) → Made c (channel_after d asking) (before ++ asking) (ruled ++ all_calls d asking) (given ++ answers_to d asking)
 unfolding channel_after all_calls answers_to asked calls answers
@@ -189,10 +156,6 @@ unfolding plain all_calls calls_of on_channel
 plain_calls c [] = refl
 plain_calls c (rule.pour s ∷ calls) = ap (λ x. rule.pour s ∷ x) (plain_calls (step_call c s).left calls)
 plain_calls c (rule.smooth ∷ calls) = ap (λ x. rule.smooth ∷ x) (plain_calls (filter_call c).left calls)
-
-pub record RuleMade (c d : Channel) (ruled : List Call) : Type 0 where
-  pub history : History c d
-  pub calls : calls history ≡ ruled
 
 pub any_calls : (c : Channel) (ruled : List Call) → RuleMade c (after c ruled) ruled
 any_calls c ruled =

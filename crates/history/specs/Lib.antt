@@ -15,3 +15,10 @@ pub mod FileLate
 pub mod FileCalls
 pub mod FileHistory
 pub mod FileAnyCalls
+pub mod Answers
+pub mod Told
+pub mod Files
+pub mod FileKept
+pub mod FileOne
+pub mod Witness
+pub mod FileWitness
