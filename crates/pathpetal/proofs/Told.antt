@@ -1,4 +1,4 @@
--- What C is told: number, stage, place and count, taken out of the number that an exported function gives, are the rule's answer, of any
+-- What C is told: number, stage, place and count, taken out of the number that a function that C calls gives, are the rule's answer, of any
 -- outcome that its contract permits. `Post` is the contract itself, as the check reads it. Assumes nothing.
 use mathlib.Core.Path.{◌≡◌}
 use contract.Lifetimes.{Lfts}

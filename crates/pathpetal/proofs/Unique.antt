@@ -1,4 +1,4 @@
--- Any two outcomes that the contracts of the nine exported functions permit coincide: for all numbers and bytes, each answers one
+-- Any two outcomes that the contracts of the nine functions that pathpetal_c hands to C permit coincide: for all numbers and bytes, each answers one
 -- number and leaves one file, one state of the gauges or one row of readings; the rule's number is one, too. `Post` is the contract itself, as the check reads it. Assumes nothing.
 use Prim.Native.Nat.{ℕ}
 use mathlib.Core.Path.{◌≡◌, sym, ◌∙◌}
