@@ -1,10 +1,7 @@
--- `store::keep` meets its contract: a row renewed whole. Assumes nothing.
-use mathlib.Core.Path.{◌∙◌}
-use Rattle.rows.specs.Firsts.{firsts}
-use Rattle.store.specs.Levels.{renewed_all}
+-- `store::keep` meets its contract. Assumes nothing.
+use Rattle.std.proofs.Common.{◌∙◌, arith}
+use Rattle.store.specs.Levels.{firsts_take}
 use Rattle.store.proofs.keep.Goals as goal
 
 pub returns : goal.returns
-returns c =
-    let s = c.before.before.before in
-    c.before.renew.ensures ∙ renewed_all s.args.n (firsts s.args.n s.args.new.now) s.args.row.now s.requires.1
+returns c = c.copy_from_slice.ensures.after ∙ firsts_take c.args.n c.args.new.now (omega arith)
