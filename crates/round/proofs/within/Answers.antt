@@ -1,11 +1,21 @@
--- `round::within` meets its contract. Assumes nothing.
+-- `round::within` meets its contract: a range compares by `le`. Assumes nothing.
+use Rattle.std.proofs.Common.{◌≡◌, Bool, true, false, cond, ◌||◌, Less, Equal, Greater, refl, ◌∙◌}
+use Rattle.std.specs.Prelude.{Some, None, Float}
+use Rattle.std.specs.Float.Ieee.{le, lt, eq}
+use Rattle.std.specs.Ordering.{is_le, is_some_and, partial_le, float_partial_cmp}
 use Rattle.rule.specs.Floats.{within_float}
 use Rattle.round.proofs.within.Goals as goal
 
-pub returns-then-x-bound : goal.returns-then-x-bound
-unfolding within_float
-returns-then-x-bound c = rw (← c.before.nearest_u64_to_f64-bound.ensures, c.if-x-bound.true)
+le_is : (x y : Float) → partial_le float_partial_cmp x y ≡ le x y
+unfolding le
+le_is x y = go (lt x y) (eq x y) (lt y x)
+  where
+    go : (a b c : Bool) → is_some_and is_le (cond a (Some Less) (cond b (Some Equal) (cond c (Some Greater) None))) ≡ a || b
+    go true b c = refl
+    go false true c = refl
+    go false false true = refl
+    go false false false = refl
 
-pub returns-else-x-bound : goal.returns-else-x-bound
+pub returns : goal.returns
 unfolding within_float
-returns-else-x-bound c = rw (← c.before.nearest_u64_to_f64-bound.ensures, c.if-x-bound.false)
+returns c = c.contains.ensures.value ∙ rw (c.new.ensures.exhausted, c.new.ensures.start, c.new.ensures.end, le_is, le_is, c.nearest_u64_to_f64-bound.ensures)
