@@ -1,14 +1,12 @@
 -- `motion::raised` meets its contract: what a cell gains over its right face the next loses over its left one, and no sum wraps.
 -- Assumes nothing.
-use Prim.Native.Nat.{◌-◌, ◌≤◌}
-use mathlib.Core.Path.{◌≡◌}
+use Rattle.std.proofs.Common.{◌≡◌}
 use Rattle.whole.specs.Row.{Filled}
 use Rattle.rule.specs.Rows.{cell}
 use Rattle.motion.specs.Moved.{Ws, raised_at}
 use Rattle.motion.proofs.raised.Given as goal
 
 abbrev pub invariant-loop-j : goal.invariant-loop-j
-invariant-loop-j l = (l.j ≤ l.n) × Filled (raised_at l.corrects l.accepted l.n l.x l.t l.e l.s l.trial l.levels) l.initial.row l.j l.row × (l.left ≡ (cell (Ws l.corrects l.accepted l.n l.x l.t l.e l.s l.trial l.levels) l.j))
-
-abbrev pub decreases-loop-j : goal.decreases-loop-j
-decreases-loop-j l = l.n - l.j
+invariant-loop-j l =
+    Filled (raised_at l.corrects l.accepted l.n l.x l.t l.e l.s l.trial l.levels) l.initial.row l.j l.row
+    × (l.left ≡ cell (Ws l.corrects l.accepted l.n l.x l.t l.e l.s l.trial l.levels) l.j)

@@ -1,14 +1,9 @@
 -- `motion::rung` meets its contract. Assumes nothing.
-use native.Mathlib.Omega.{arith}
-use mathlib.Core.Path.{refl}
-use borrow.Author.Tests.{le-leb, lt-leb}
+use Rattle.std.proofs.Common.{arith}
+use Rattle.std.proofs.lemmas.Bool.Decides.{nat_tests}
 use Rattle.rule.specs.Step as rule
 use Rattle.motion.proofs.rung.Goals as goal
 
-pub returns-then-accepted-le2 : goal.returns-then-accepted-le2
+pub returns-clause-value : goal.returns-clause-value
 unfolding rule.rung
-returns-then-accepted-le2 c = rw (le-leb c.before.args.accepted 2 (omega (arith, c.if-accepted-le2.true))) refl
-
-pub returns-else-accepted-le2 : goal.returns-else-accepted-le2
-unfolding rule.rung
-returns-else-accepted-le2 c = rw (lt-leb c.before.args.accepted 2 (omega (arith, c.if-accepted-le2.false))) refl
+returns-clause-value c = grind (arith, nat_tests)
