@@ -1,6 +1,8 @@
 -- Refusal numbers: the deepest of n cells is as deep as each of them, and one of them. Assumes nothing.
 use Prim.Native.Nat.{ℕ, zero, suc, ◌+◌, ◌*◌, ◌≤◌, ◌<◌}
 use Rattle.std.specs.Prelude.{◌≡◌, Bool, leb}
+use Rattle.std.specs.Ordering.{nat_cmp, ord_max}
+use Rattle.std.proofs.lemmas.Bool.Decides.{nat_tests}
 use Rattle.std.proofs.Math.Path.{refl, ap}
 use Rattle.std.proofs.Common.{◌∙◌, mul-le-mul}
 use Rattle.std.proofs.Math.Bool.{true, false}
@@ -38,6 +40,10 @@ second_larger a b l = rw (le-leb a b l)
 pub first_larger : (a b : ℕ) → b < a → a ≡ larger a b
 unfolding larger
 first_larger a b l = rw (lt-leb a b l)
+
+pub larger_is : (a b : ℕ) → ord_max nat_cmp a b ≡ larger a b
+unfolding larger
+larger_is a b = grind (arith, nat_tests)
 
 module _ (h : Row) where
   pub deepest_none : 0 ≡ deepest 0 h

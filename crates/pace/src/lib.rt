@@ -2,15 +2,9 @@
 #![tactic(auto)]
 
 ghost use Rattle.std.specs.Prelude.{◌≡◌};
-ghost use Rattle.rule.specs.Checks.{larger, deepest, timed};
+ghost use Rattle.rule.specs.Checks.{deepest, timed};
 ghost use Rattle.rule.specs.Refusals.{fault_of};
 ghost use Rattle.pace.specs.Asked.{Depths, Measures};
-
-fn larger(a: u64, b: u64) -> u64
-    ensures { result ≡ larger a b }
-{
-    if a <= b { b } else { a }
-}
 
 // The depth of the deepest of n cells.
 pub fn deepest(n: usize, h: &[i64]) -> u64
@@ -18,10 +12,8 @@ pub fn deepest(n: usize, h: &[i64]) -> u64
     ensures { result ≡ deepest n h.now }
 {
     let mut most = 0;
-    let mut j = 0;
-    while j < n {
-        most = larger(most, round::size(h[j]));
-        j += 1;
+    for depth in &h[..n] {
+        most = most.max(depth.unsigned_abs());
     }
     most
 }

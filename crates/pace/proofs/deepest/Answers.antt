@@ -1,39 +1,32 @@
 -- `pace::deepest` meets its contract: `most` is the deepest of the cells passed. Assumes nothing.
-use mathlib.Core.Path.{◌≡◌, ◌∙◌, ap}
-use native.Mathlib.Nat.{le_trans}
-use native.Mathlib.Omega.{arith}
-use lib.Dec.{lit≤}
-use lib.IntN.{nat_abs}
-use Rattle.whole.specs.Expr.{E, var, rd_is, abs≤}
-use Rattle.rule.specs.Rows.{cell}
+use Rattle.std.specs.Prelude.{◌≡◌, nat_abs}
+use Rattle.std.proofs.Common.{◌∙◌, ap, arith, get_or-take, length-take-le, pos}
+use Rattle.whole.specs.Expr.{E, res, rd_is}
 use Rattle.rule.specs.Ranges.{most_depth}
 use Rattle.rule.specs.Checks.{larger, deepest}
-use Rattle.pace.specs.Deepest.{deepest_none, deepest_more}
+use Rattle.pace.specs.Deepest.{deepest_none, deepest_more, larger_is}
 use Rattle.pace.proofs.deepest.Goals as goal
-use Rattle.pace.proofs.deepest.Goals.{In-loop-j}
+use Rattle.pace.proofs.deepest.Goals.{After-max-most}
 
 -- the depth of the cell
-abbrev depth : In-loop-j → E
+abbrev depth : After-max-most → E
 depth c =
-    let s = c.before.before in
-    let j = c.before.loop-j.j in
-    var (cell s.args.h.now j) most_depth (s.requires.small.at j c.loop-j-test.true)
+    let h = c.args.h.now in
+    let j = c.loop-depth.depth-index in
+    let z = length-take-le c.args.n h c.requires.long in
+    res most_depth (get_or-take c.args.n h j (pos 0) (omega (arith, z))) (c.requires.small.at j (omega (arith, z)))
 
-pub loop-j-init : goal.loop-j-init
-loop-j-init c = (omega arith, deepest_none c.args.h.now)
+pub loop-depth-init : goal.loop-depth-init
+loop-depth-init c = deepest_none c.args.h.now
 
-pub size-requires : goal.size-requires
-size-requires c = let d = depth c.before in rw (rd_is d tt) (le_trans (abs≤ d) (lit≤ tt))
-
-pub loop-j-preserved : goal.loop-j-preserved
-loop-j-preserved c =
-    let z = c.before in
-    let i = z.before.before in
-    let l = i.before in
-    (omega arith, c.larger-most.ensures ∙ (λ t. larger (l.loop-j.invariant.1 t) ((z.size.ensures ∙ ap nat_abs (rd_is (depth i) tt)) t)) ∙ deepest_more l.before.args.h.now l.loop-j.j)
+pub loop-depth-preserved : goal.loop-depth-preserved
+loop-depth-preserved c =
+    c.max-most.ensures
+    ∙ larger_is c.loop-depth.most c.unsigned_abs.result
+    ∙ (λ t. larger (c.loop-depth.invariant t) ((c.unsigned_abs.ensures.value ∙ ap nat_abs (rd_is (depth c) tt)) t))
+    ∙ deepest_more c.args.h.now c.loop-depth.depth-index
 
 pub returns : goal.returns
 returns c =
-    let a = c.before.before.args in
-    let e : c.before.loop-j.j ≡ a.n = omega arith in
-    c.before.loop-j.invariant.1 ∙ ap (λ k. deepest k a.h.now) e
+    let e : c.loop-depth.depth-index ≡ c.args.n = omega (arith, length-take-le c.args.n c.args.h.now c.requires.long) in
+    c.loop-depth.invariant ∙ ap (λ k. deepest k c.args.h.now) e
