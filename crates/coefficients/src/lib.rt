@@ -50,7 +50,7 @@ pub fn dominant(r: rule::Coefficients) -> bool
     requires { Sized r }
     ensures { result ≡ dominant r }
 {
-    round::size(r.a) + round::size(r.c) < round::size(r.b)
+    r.a.unsigned_abs() + r.c.unsigned_abs() < r.b.unsigned_abs()
 }
 
 // The lowest cell, counted from 1, whose row is not dominant; 0 where every row is.
