@@ -28,7 +28,7 @@ fn opened(gauges: &[u8]) -> [i64; NUMBERS]
     ensures { result ≡ state_row gauges.now }
 {
     let mut row = [0i64; NUMBERS];
-    little::keep_row(true, gauges, 0, &mut row[..NUMBERS]);
+    little::keep_row::<i64>(gauges, 0, &mut row[..NUMBERS]);
     row
 }
 
@@ -165,7 +165,7 @@ pub fn place(n: usize, cell: u64, gauges: &mut [u8]) -> rule::Answer
     let mut row = opened(gauges);
     let free = gauge_rows::first_not(&row[..NUMBERS], gauge_rows::Test::Taken);
     gauge_rows::put_gauge(&mut row[..NUMBERS], 8 * (free as usize - 1), fresh(cell));
-    little::write_row8(gauges, 0, &row[..NUMBERS]);
+    little::write_row::<i64>(gauges, 0, &row[..NUMBERS]);
     answers::accepted(free)
 }
 
@@ -181,7 +181,7 @@ pub fn feed(e: &[i64], gauges: &mut [u8]) -> rule::Answer
     let row = opened(gauges);
     let mut after = [0i64; NUMBERS];
     gauge_rows::feed(e, &row[..NUMBERS], &mut after[..NUMBERS]);
-    little::write_row8(gauges, 0, &after[..NUMBERS]);
+    little::write_row::<i64>(gauges, 0, &after[..NUMBERS]);
     answers::accepted(0)
 }
 

@@ -58,7 +58,7 @@ fn heights(file: &[u8], n: usize) -> [i64; rule::MOST_CELLS]
     requires { Held n file.now }
     ensures { result ≡ padded n (channel_of file.now).e }
 {
-    little::read_row4(file, layout::start_of(layout::EDITION, 1, n), n)
+    little::read_row::<i32>(file, layout::start_of(layout::EDITION, 1, n), n)
 }
 
 // The same of the channel of a file.

@@ -17,7 +17,7 @@ fn held_line(s: &[u8], d: &mut [u8]) -> usize
     let accepted = little::count_at(s, 16);
     let wanted = little::count_at(s, 20);
     let cells = n as usize;
-    let e = little::read_row4(s, layout::start_of(layout::EDITION, 1, cells), cells);
+    let e = little::read_row::<i32>(s, layout::start_of(layout::EDITION, 1, cells), cells);
     text::channel_line(d, n, accepted, wanted, &e[..cells])
 }
 

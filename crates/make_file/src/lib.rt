@@ -123,10 +123,10 @@ pub fn make(
         return answers::refused(unfit, 0);
     }
     let cells = n as usize;
-    let depths = little::read_row4(h, 0, cells);
-    let heights = little::read_row4(e, 0, cells);
-    let velocities = little::read_row4(u, 0, cells);
-    let dampings = little::read_row4(damping, 0, cells);
+    let depths = little::read_row::<i32>(h, 0, cells);
+    let heights = little::read_row::<i32>(e, 0, cells);
+    let velocities = little::read_row::<i32>(u, 0, cells);
+    let dampings = little::read_row::<i32>(damping, 0, cells);
     let c = rule::Counts {
         n: cells,
         x,

@@ -15,7 +15,7 @@ pub fn poured_row(poured: bool, p: &[u8], n: usize) -> [i64; rule::MOST_CELLS]
     ensures { result ≡ poured_array poured n p.now }
 {
     if poured {
-        little::read_row4(p, 0, n)
+        little::read_row::<i32>(p, 0, n)
     } else {
         [0; rule::MOST_CELLS]
     }
@@ -46,10 +46,10 @@ pub fn keep_cells(s: &[u8], h: &mut [i64], e: &mut [i64], u: &mut [i64], v: &mut
     ensures { (h.new ≡ (channel_of s.now).h) × (e.new ≡ (channel_of s.now).e) × (u.new ≡ (channel_of s.now).u) × (v.new ≡ (channel_of s.now).v) }
 {
     let n = h.len();
-    little::keep_row(false, s, layout::start_of(layout::EDITION, 0, n), h);
-    little::keep_row(false, s, layout::start_of(layout::EDITION, 1, n), e);
-    little::keep_row(false, s, layout::start_of(layout::EDITION, 2, n), u);
-    little::keep_row(false, s, layout::start_of(layout::EDITION, 3, n), v);
+    little::keep_row::<i32>(s, layout::start_of(layout::EDITION, 0, n), h);
+    little::keep_row::<i32>(s, layout::start_of(layout::EDITION, 1, n), e);
+    little::keep_row::<i32>(s, layout::start_of(layout::EDITION, 2, n), u);
+    little::keep_row::<i32>(s, layout::start_of(layout::EDITION, 3, n), v);
 }
 
 // The levels of a file of n cells, of Q and of F, and its damping.
@@ -57,9 +57,9 @@ pub fn keep_levels(s: &[u8], n: usize, q: &mut [i64], f: &mut [i64], damping: &m
     requires { LevelsFit n s.now q.old f.old damping.old }
     ensures { (q.new ≡ (channel_of s.now).Q) × (f.new ≡ (channel_of s.now).F) × (damping.new ≡ (channel_of s.now).damping) }
 {
-    little::keep_row(true, s, layout::start_of(layout::EDITION, 4, n), q);
-    little::keep_row(true, s, layout::start_of(layout::EDITION, 5, n), f);
-    little::keep_row(false, s, layout::start_of(layout::EDITION, 6, n), damping);
+    little::keep_row::<i64>(s, layout::start_of(layout::EDITION, 4, n), q);
+    little::keep_row::<i64>(s, layout::start_of(layout::EDITION, 5, n), f);
+    little::keep_row::<i32>(s, layout::start_of(layout::EDITION, 6, n), damping);
 }
 
 // The channel of a file whose form is right: its rows in lent ones of their lengths, and its counts.

@@ -13,10 +13,8 @@ fn put_counts(d: &mut [u8], counts: &[u64])
     requires { 4 * length counts.now ≤ length d.old }
     ensures { d.new ≡ written d.old 0 (head_bytes counts.now) }
 {
-    let mut i = 0;
-    while i < counts.len() {
-        little::put_count(d, 4 * i, counts[i]);
-        i += 1;
+    for (i, &count) in counts.iter().enumerate() {
+        little::put_count(d, 4 * i, count);
     }
 }
 
@@ -35,10 +33,10 @@ fn put_cells(d: &mut [u8], n: usize, h: &[i64], e: &[i64], u: &[i64], v: &[i64])
     requires { Buffer n d.old × FourRows n h.now e.now u.now v.now }
     ensures { d.new ≡ written d.old (head_length edition) (body_bytes (4 ∷ 4 ∷ 4 ∷ 4 ∷ []) (h.now ∷ e.now ∷ u.now ∷ v.now ∷ [])) }
 {
-    little::write_row4(d, layout::start_of(layout::EDITION, 0, n), h);
-    little::write_row4(d, layout::start_of(layout::EDITION, 1, n), e);
-    little::write_row4(d, layout::start_of(layout::EDITION, 2, n), u);
-    little::write_row4(d, layout::start_of(layout::EDITION, 3, n), v);
+    little::write_row::<i32>(d, layout::start_of(layout::EDITION, 0, n), h);
+    little::write_row::<i32>(d, layout::start_of(layout::EDITION, 1, n), e);
+    little::write_row::<i32>(d, layout::start_of(layout::EDITION, 2, n), u);
+    little::write_row::<i32>(d, layout::start_of(layout::EDITION, 3, n), v);
 }
 
 // The rows of eight bytes an entry, the levels of flux and of acceleration, and damping, of four.
@@ -46,9 +44,9 @@ fn put_levels(d: &mut [u8], n: usize, q: &[i64], f: &[i64], damping: &[i64])
     requires { Buffer n d.old × Levels n q.now f.now damping.now }
     ensures { d.new ≡ written d.old (start_of edition n 4) (body_bytes (8 ∷ 8 ∷ 4 ∷ []) (q.now ∷ f.now ∷ damping.now ∷ [])) }
 {
-    little::write_row8(d, layout::start_of(layout::EDITION, 4, n), q);
-    little::write_row8(d, layout::start_of(layout::EDITION, 5, n), f);
-    little::write_row4(d, layout::start_of(layout::EDITION, 6, n), damping);
+    little::write_row::<i64>(d, layout::start_of(layout::EDITION, 4, n), q);
+    little::write_row::<i64>(d, layout::start_of(layout::EDITION, 5, n), f);
+    little::write_row::<i32>(d, layout::start_of(layout::EDITION, 6, n), damping);
 }
 
 // The file of a channel, in a buffer of its length.

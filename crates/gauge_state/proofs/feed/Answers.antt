@@ -42,8 +42,8 @@ feed-requires c =
       small = c.requires.1;
     }
 
-pub write_row8-requires : goal.write_row8-requires
-write_row8-requires c =
+pub write_row-requires : goal.write_row-requires
+write_row-requires c =
     let passed : let a = c.args in number_of (feedable (length a.e.now) a.gauges.now) ≡ 0 = sym (numbered c.feed_fault-fault.ensures) ∙ c.if-fault-ne0.false in
     let long : length c.args.gauges.now ≡ state_length = let a = c.args in (form_passed a.gauges.now (feed_passed a.gauges.now (length a.e.now) passed).0).0 in
     let written_long : length c.feed.new.out ≡ state_numbers = ap length c.feed.ensures ∙ length_fed c.args.e.now c.opened-row.result in
@@ -58,6 +58,6 @@ returns c =
     let a = c.args in
     let s = a.gauges.now in
     let row = c.feed.ensures ∙ ap (λ r. flat (map numbers (map (fed_from a.e.now) (gauges_in r)))) c.opened-row.ensures in
-    ap (λ r. leaves_bytes r c.write_row8.new.d) c.accepted.ensures
-    ∙ feed_accepted a.e.now s c.write_row8.new.d passed
-    (all_written s c.write_row8.new.d c.feed.new.out long written_long c.write_row8.ensures ∙ ap (row_bytes 8) row)
+    ap (λ r. leaves_bytes r c.write_row.new.d) c.accepted.ensures
+    ∙ feed_accepted a.e.now s c.write_row.new.d passed
+    (all_written s c.write_row.new.d c.feed.new.out long written_long c.write_row.ensures ∙ ap (row_bytes 8) row)

@@ -60,9 +60,9 @@ put_gauge-requires c =
     let row_long : length c.opened-row.result ≡ state_numbers = ap length c.opened-row.ensures ∙ length_state c.args.gauges.now in
     omega (arith, least, most, row_long)
 
-pub write_row8-requires : goal.write_row8-requires
+pub write_row-requires : goal.write_row-requires
 unfolding passes free gauges_of
-write_row8-requires c =
+write_row-requires c =
     let passed : let a = c.args in number_of (placeable a.n a.cell a.gauges.now) ≡ 0 = sym (numbered c.place_fault-fault.ensures) ∙ c.if-fault-ne0.false in
     let long : length c.args.gauges.now ≡ state_length = let a = c.args in (form_passed a.gauges.now (place_passed a.gauges.now a.n a.cell passed).0).0 in
     let free_is : c.first_not-free.result ≡ free c.args.gauges.now = c.first_not-free.ensures ∙ ap (λ r. lowest taken (gauges_in r)) c.opened-row.ensures in
@@ -89,6 +89,6 @@ returns c =
     c.put_gauge.ensures
     ∙ (λ i. written (c.opened-row.ensures i) (8 * (free i - 1)) (numbers (c.fresh.ensures i)))
     ∙ with_is (state_row s) _ (gauge_of (pos a.cell) []) in
-    (λ i. leaves_bytes ((c.accepted.ensures ∙ ap acceptance free) i) c.write_row8.new.d)
-    ∙ place_accepted a.n a.cell s c.write_row8.new.d passed
-    (all_written s c.write_row8.new.d c.put_gauge.new.row long written_long c.write_row8.ensures ∙ ap (row_bytes 8) row)
+    (λ i. leaves_bytes ((c.accepted.ensures ∙ ap acceptance free) i) c.write_row.new.d)
+    ∙ place_accepted a.n a.cell s c.write_row.new.d passed
+    (all_written s c.write_row.new.d c.put_gauge.new.row long written_long c.write_row.ensures ∙ ap (row_bytes 8) row)

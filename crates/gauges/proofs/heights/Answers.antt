@@ -13,10 +13,10 @@ pub start_of-requires : goal.start_of-requires
 unfolding widths
 start_of-requires c = let h = c.requires in (omega arith, (omega (arith, h.least), h.most))
 
-pub read_row4-requires : goal.read_row4-requires
+pub read_row-requires : goal.read_row-requires
 unfolding widths lengths
-read_row4-requires c = let h = c.requires in (row_stands edition _ 1 c.start_of.ensures refl refl h.sized (omega arith), h.most)
+read_row-requires c = let h = c.requires in (row_stands edition _ 1 c.start_of.ensures refl refl h.sized (omega arith), h.most)
 
 pub returns : goal.returns
 unfolding channel_of widths lengths
-returns c = c.read_row4.ensures ∙ ap (padded c.args.n) (held_row c.args.file.now c.args.n 1 c.start_of.ensures refl refl c.requires.cells)
+returns c = c.read_row.ensures ∙ ap (padded c.args.n) (held_row c.args.file.now c.args.n 1 c.start_of.ensures refl refl c.requires.cells)

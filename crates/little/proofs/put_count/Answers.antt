@@ -1,19 +1,9 @@
--- `little::put_count` meets its contract. Assumes nothing.
-use native.Mathlib.Omega.{arith}
-use lib.ListN.{length-set}
-use Rattle.rule.specs.Bytes.{bytes}
-use Rattle.little.specs.Written.{written_four}
+-- `little::put_count` meets its contract. The bytes of a number are those of its low part. Assumes nothing.
+use Rattle.std.proofs.Common.{◌∙◌}
+use Rattle.little.specs.Numbers.{length-bytes}
+use Rattle.little.specs.Written.{written_part}
+use Rattle.little.specs.Machine.{bytes_four, bytes_low_four}
 use Rattle.little.proofs.put_count.Goals as goal
 
-pub bounds-d-at-2 : goal.bounds-d-at-2
-bounds-d-at-2 c = simp length-set (omega arith)
-
-pub bounds-d-at-3 : goal.bounds-d-at-3
-bounds-d-at-3 c = simp length-set (omega arith)
-
-pub bounds-d-at-4 : goal.bounds-d-at-4
-bounds-d-at-4 c = simp length-set (omega arith)
-
 pub returns : goal.returns
-unfolding bytes
-returns c = written_four c.args.d.now c.args.at _ _ _ _ (omega arith)
+returns c = written_part c.args.d.now c.args.at 4 (c.copy_from_slice.ensures.after ∙ c.to_le_bytes.ensures ∙ bytes_four _ ∙ bytes_low_four c.args.n) (length-bytes 4 _)

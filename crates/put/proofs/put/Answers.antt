@@ -4,9 +4,7 @@ use Rattle.put.proofs.put.Goals as goal
 
 pub returns : goal.returns
 returns c =
-    let b = c in
-    let a = b in
-    let z = a in
-    let s = z.args in
-    let p = z.requires in
-    file_put s.c.n s.c.x s.c.t s.c.accepted s.c.wanted s.h.now s.e.now s.u.now s.v.now s.q.now s.f.now s.damping.now p.1 _ _ _ _ p.0 z.put_head.ensures a.put_cells.ensures b.put_levels.ensures
+    let s = c.args in
+    let k = s.c in
+    file_put k.n k.x k.t k.accepted k.wanted s.h.now s.e.now s.u.now s.v.now s.q.now s.f.now s.damping.now
+    c.requires.1 _ _ _ _ c.requires.0 c.put_head.ensures c.put_cells.ensures c.put_levels.ensures

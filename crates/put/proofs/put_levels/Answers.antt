@@ -8,45 +8,40 @@ use Rattle.rule.specs.File.{edition}
 use Rattle.layout.specs.Rows.{row_stands}
 use Rattle.put.specs.Runs.{three_rows}
 use Rattle.put.proofs.put_levels.Goals as goal
-use Rattle.put.proofs.put_levels.Goals.{After-write_row8, After-write_row8-2, Start}
 
 pub start_of-requires : goal.start_of-requires
 unfolding widths
 start_of-requires c = search rules
 
-pub write_row8-requires : goal.write_row8-requires
+pub write_row-requires : goal.write_row-requires
 unfolding widths lengths
-write_row8-requires c =
+write_row-requires c =
     let p = c.requires in
-    row_stands edition _ 4 c.start_of.ensures refl p.1.q_long (omega (arith, p.0.sized)) (omega arith)
+    (row_stands edition _ 4 c.start_of.ensures refl p.1.q_long (omega (arith, p.0.sized)) (omega arith), λ _ _. tt)
 
 pub start_of-requires-2 : goal.start_of-requires-2
 unfolding widths
 start_of-requires-2 c = search rules
 
-pub write_row8-requires-2 : goal.write_row8-requires-2
+pub write_row-requires-2 : goal.write_row-requires-2
 unfolding widths lengths
-write_row8-requires-2 c =
+write_row-requires-2 c =
     let p = c.requires in
-    row_stands edition _ 5 c.start_of-2.ensures refl p.1.f_long (omega (arith, p.0.sized)) (omega arith)
+    (row_stands edition _ 5 c.start_of-2.ensures refl p.1.f_long (omega (arith, p.0.sized)) (omega arith), λ _ _. tt)
 
 pub start_of-requires-3 : goal.start_of-requires-3
 unfolding widths
 start_of-requires-3 c = search rules
 
-pub write_row4-requires : goal.write_row4-requires
+pub write_row-requires-3 : goal.write_row-requires-3
 unfolding widths lengths
-write_row4-requires c =
+write_row-requires-3 c =
     let p = c.requires in
-    (row_stands edition _ 6 c.start_of-3.ensures refl p.1.damping_long (omega (arith, p.0.sized)) (omega arith), p.1.damping_small)
+    (row_stands edition _ 6 c.start_of-3.ensures refl p.1.damping_long (omega (arith, p.0.sized)) (omega arith), p.1.damping_small.at)
 
 pub returns : goal.returns
 returns c =
-    let d = c in
-    let f = d in
-    let q = f in
-    let s = q in
-    let a = s.args in
-    three_rows a.n a.q.now a.f.now a.damping.now s.requires.0 s.requires.1
-    q.start_of.ensures f.start_of-2.ensures d.start_of-3.ensures
-    q.write_row8.ensures f.write_row8-2.ensures d.write_row4.ensures
+    let a = c.args in
+    three_rows a.n a.q.now a.f.now a.damping.now c.requires.0 c.requires.1
+    c.start_of.ensures c.start_of-2.ensures c.start_of-3.ensures
+    c.write_row.ensures c.write_row-2.ensures c.write_row-3.ensures
