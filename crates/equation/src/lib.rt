@@ -22,6 +22,7 @@ pub fn equation(w: u64, r: rule::Coefficients, v: i64) -> rule::Equation
 }
 
 // A row after one reduced to a ratio and a side. No pivot is exactly when p > 0 is false.
+// `Reduced`, and no Option: the enum of two f64 values and a bare case is a form of docs/PROMISES.md, 'The listed forms'.
 pub fn eliminate(r: rule::Equation, ratio: f64, side: f64) -> rule::Reduced
     ensures { result ≡ eliminate r (Kept ratio side) }
 {
