@@ -6,6 +6,8 @@ ghost use Rattle.whole.specs.Row.{padded};
 ghost use Rattle.rule.specs.Acceleration.{undamped, acceleration, accelerations};
 ghost use Rattle.dispersion.specs.Asked.{Moving, Damped};
 
+use rows::{Even, Odd};
+
 // On cells j - 2 to j + 2.
 const SLOPE: [i64; 5] = [1, -8, 0, 8, -1];
 
@@ -14,9 +16,9 @@ fn undamped(n: usize, x: u64, e: &[i64], u: &[i64], j: usize) -> i64
     requires { Moving n x e.now u.now × (j < n) }
     ensures { result ≡ undamped n x e.now u.now j }
 {
-    let gravity = 9810000 * rows::weigh_even(e, n, j + 2, &SLOPE);
-    let advection = u[j] * rows::weigh_odd(u, n, j + 2, &SLOPE);
-    0 - round::rounded(gravity + advection, 12 * (1000 * x))
+    let gravity = 9_810_000 * rows::weigh::<Even>(e, n, j + 2, &SLOPE);
+    let advection = u[j] * rows::weigh::<Odd>(u, n, j + 2, &SLOPE);
+    -round::rounded(gravity + advection, 12 * (1000 * x))
 }
 
 // F of cell j: each of its two parts is rounded by itself.
@@ -38,11 +40,9 @@ pub fn accelerations(
     requires { Damped n x e.now u.now damping.now }
     ensures { result ≡ padded n (accelerations n x e.now u.now damping.now) }
 {
-    let mut row = [0i64; rule::MOST_CELLS];
-    let mut j = 0;
-    while j < n {
-        row[j] = acceleration(n, x, e, u, damping, j);
-        j += 1;
+    let mut row = [0; rule::MOST_CELLS];
+    for (j, f) in row[..n].iter_mut().enumerate() {
+        *f = acceleration(n, x, e, u, damping, j);
     }
     row
 }

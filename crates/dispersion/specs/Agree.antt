@@ -1,17 +1,15 @@
 -- Flux and acceleration: of a row no more is read than the entries of the n cells. Assumes nothing.
-use Rattle.std.specs.Prelude.{ℕ, ◌+◌, ◌*◌, ◌<◌, ◌≤◌, ◌≡◌, Bool, List, length, ℤ, pos, ◌+ℤ◌, ◌-ℤ◌, ◌*ℤ◌}
+use Rattle.std.specs.Prelude.{ℕ, ◌+◌, ◌*◌, ◌<◌, ◌≤◌, ◌≡◌, List, length, ℤ, pos, ◌+ℤ◌, ◌-ℤ◌, ◌*ℤ◌}
 use Rattle.std.proofs.Common.{arith}
 use Rattle.std.proofs.Math.Path.{ap}
-use Rattle.std.proofs.Math.Bool.{true, false, cond}
 use Rattle.std.proofs.Math.IntN.{neg_ℤ}
 use Rattle.whole.specs.Row.{tab, tab_at, tab_ext, padded, padded_at}
 use Rattle.rule.specs.Rounded.{rounded}
 use Rattle.rule.specs.Rows.{Row, cell, weighed}
 use Rattle.rule.specs.Channel.{bottom, water, product}
-use Rattle.rule.specs.Mirror.{beyond, mirror, even, odd}
 use Rattle.rule.specs.Flux.{plain_weights, plain_part, second_weights, second, M, Ms}
 use Rattle.rule.specs.Acceleration.{slope_weights, D, undamped, acceleration, accelerations}
-use Rattle.rows.specs.Mirrored.{seen, mirror_lt}
+use Rattle.rows.specs.Mirrored.{Mirrors, seen_agree, even_mirrors, odd_mirrors}
 use Rattle.rows.specs.Weighed.{weighed_same}
 
 -- rows with the same entries for n cells
@@ -36,25 +34,21 @@ product_agree n a a' b b' p q = tab_ext n _ _ (λ j l t. p j l t *ℤ q j l t)
 -- of a mirrored row
 module _ (n : ℕ) (least : 4 ≤ n) where
   module _ (a b : Row) (p : Agree n a b) where
-    seen_agree : (s : Bool) (k : ℕ) → k < n + 8 → seen s n a k ≡ seen s n b k
-    unfolding even odd
-    seen_agree true k l = ap (λ z. cond (beyond n k) (neg_ℤ z) z) (p (mirror n k) (mirror_lt n k least l))
-    seen_agree false k l = p (mirror n k) (mirror_lt n k least l)
-
-    weighed_agree : (s : Bool) (ws : List ℤ) (k : ℕ) → k + length ws ≤ n + 8 → weighed ws (seen s n a) k ≡ weighed ws (seen s n b) k
-    weighed_agree s ws k l = weighed_same ws (seen s n a) (seen s n b) k k (λ i m. seen_agree s (k + i) (omega arith))
+    weighed_agree : {seen : ℕ → Row → ℕ → ℤ} {image : ℤ → ℤ} {can_image : ℤ → Type 0} → Mirrors seen image can_image → (ws : List ℤ) (k : ℕ) → k + length ws ≤ n + 8 → weighed ws (seen n a) k ≡ weighed ws (seen n b) k
+    weighed_agree {seen} laws ws k l =
+        weighed_same ws (seen n a) (seen n b) k k (λ i m. seen_agree laws n a b p least (k + i) (omega arith))
 
     pub plain_agree : (j : ℕ) → j < n → plain_part n a j ≡ plain_part n b j
     unfolding plain_part
-    plain_agree j l = ap (λ z. rounded z 12) (weighed_agree true plain_weights (j + 3) (omega arith))
+    plain_agree j l = ap (λ z. rounded z 12) (weighed_agree odd_mirrors plain_weights (j + 3) (omega arith))
 
     pub second_agree : (j : ℕ) → j < n → second n a j ≡ second n b j
     unfolding second
-    second_agree j l = weighed_agree true second_weights (j + 3) (omega arith)
+    second_agree j l = weighed_agree odd_mirrors second_weights (j + 3) (omega arith)
 
-    slope_agree : (s : Bool) (j : ℕ) → j < n → D (seen s n a) j ≡ D (seen s n b) j
+    slope_agree : {seen : ℕ → Row → ℕ → ℤ} {image : ℤ → ℤ} {can_image : ℤ → Type 0} → Mirrors seen image can_image → (j : ℕ) → j < n → D (seen n a) j ≡ D (seen n b) j
     unfolding D
-    slope_agree s j l = weighed_agree s slope_weights (j + 2) (omega arith)
+    slope_agree laws j l = weighed_agree laws slope_weights (j + 2) (omega arith)
 
   pub Ms_agree : (X : ℕ) (H H' u u' B B' : Row) → Agree n H H' → Agree n u u' → Agree n B B' → Ms n X H u B ≡ Ms n X H' u' B'
   unfolding Ms
@@ -65,7 +59,7 @@ module _ (n : ℕ) (least : 4 ≤ n) where
   unfolding accelerations acceleration undamped
   accelerations_agree X e e' u u' damping p q =
       tab_ext n _ _ (λ j l t.
-      neg_ℤ (rounded (pos 9_810_000 *ℤ slope_agree e e' p false j l t +ℤ q j l t *ℤ slope_agree u u' q true j l t) (12 * (1000 * X)))
+      neg_ℤ (rounded (pos 9_810_000 *ℤ slope_agree e e' p even_mirrors j l t +ℤ q j l t *ℤ slope_agree u u' q odd_mirrors j l t) (12 * (1000 * X)))
       -ℤ rounded (cell damping j *ℤ q j l t) 1000)
 
 -- M of each cell, from the row h

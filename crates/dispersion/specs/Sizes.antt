@@ -1,7 +1,6 @@
 -- Flux and acceleration: how large the rows and their weighted sums are. Assumes nothing.
-use Rattle.std.specs.Prelude.{ℕ, ◌+◌, ◌*◌, ◌<◌, ◌≤◌, ◌≡◌, Bool, List, length, ℤ, pos, nat_abs, ◌+ℤ◌, ◌-ℤ◌, ◌*ℤ◌}
+use Rattle.std.specs.Prelude.{ℕ, ◌+◌, ◌*◌, ◌<◌, ◌≤◌, ◌≡◌, List, length, ℤ, pos, nat_abs, ◌+ℤ◌, ◌-ℤ◌, ◌*ℤ◌}
 use Rattle.std.proofs.Common.{arith, le_trans, ◌∙◌, ap, lit≤}
-use Rattle.std.proofs.Math.Bool.{true, false}
 use Rattle.std.proofs.lemmas.List.{get_or-replicate}
 use Rattle.std.proofs.Math.IntN.{+ℤ_idr, zero-*ℤ}
 use Rattle.whole.specs.Abs.{abs_neg}
@@ -16,7 +15,7 @@ use Rattle.rule.specs.Flux.{plain_weights, plain_part, second_weights, second}
 use Rattle.rule.specs.Acceleration.{slope_weights, D, undamped, acceleration, accelerations}
 use Rattle.round.specs.Quotients.{rounded_most, rounded_less}
 use Rattle.rows.specs.Asked.{Sum}
-use Rattle.rows.specs.Mirrored.{seen, seen_within}
+use Rattle.rows.specs.Mirrored.{Mirrors, seen_within, even_mirrors, odd_mirrors}
 use Rattle.rows.specs.Weighed.{weighed_within}
 use Rattle.dispersion.specs.Asked.{Cells, Carrying}
 
@@ -60,25 +59,25 @@ carried_cells {n} {h} {e} {u} {r} i c =
 
 -- the weighted sums over a row
 module _ (k n : ℕ) (row : Row) (small : Within k n row) (least : 4 ≤ n) where
-  seen_sum : (s : Bool) (ws : List ℤ) (i : ℕ) → i + length ws ≤ n + 8 → nat_abs (weighed ws (seen s n row) i) ≤ sizes ws * k
-  seen_sum s ws i h =
-      weighed_within (seen s n row) k ws i (λ m l. seen_within k n row small least s (i + m) (omega arith))
+  seen_sum : {seen : ℕ → Row → ℕ → ℤ} {image : ℤ → ℤ} {can_image : ℤ → Type 0} → Mirrors seen image can_image → (ws : List ℤ) (i : ℕ) → i + length ws ≤ n + 8 → nat_abs (weighed ws (seen n row) i) ≤ sizes ws * k
+  seen_sum {seen} laws ws i h =
+      weighed_within (seen n row) k ws i (λ m l. seen_within laws k n row small least (i + m) (omega arith))
 
   pub plain_sum : (j : ℕ) → j < n → nat_abs (weighed plain_weights (odd n row) (j + 3)) ≤ 16 * k
   unfolding sizes
-  plain_sum j l = seen_sum true plain_weights (j + 3) (omega arith)
+  plain_sum j l = seen_sum odd_mirrors plain_weights (j + 3) (omega arith)
 
   pub second_within : (j : ℕ) → j < n → nat_abs (second n row j) ≤ 4 * k
   unfolding second sizes
-  second_within j l = seen_sum true second_weights (j + 3) (omega arith)
+  second_within j l = seen_sum odd_mirrors second_weights (j + 3) (omega arith)
 
   pub slope_even : (j : ℕ) → j < n → nat_abs (D (even n row) j) ≤ 18 * k
   unfolding D sizes
-  slope_even j l = seen_sum false slope_weights (j + 2) (omega arith)
+  slope_even j l = seen_sum even_mirrors slope_weights (j + 2) (omega arith)
 
   pub slope_odd : (j : ℕ) → j < n → nat_abs (D (odd n row) j) ≤ 18 * k
   unfolding D sizes
-  slope_odd j l = seen_sum true slope_weights (j + 2) (omega arith)
+  slope_odd j l = seen_sum odd_mirrors slope_weights (j + 2) (omega arith)
 
 pub plain_within : (n : ℕ) (P : Row) → Within 1_000_000_000_000_000 n P → 4 ≤ n → (j : ℕ) → j < n → nat_abs (plain_part n P j) ≤ 2_000_000_000_000_000
 unfolding plain_part

@@ -15,7 +15,7 @@ fn second(n: usize, row: &[i64], j: usize) -> i64
     requires { Cells 1_000_000_000_000_000 n row.now × (j < n) }
     ensures { result ≡ second n row.now j }
 {
-    rows::weigh_odd(row, n, j + 3, &SECOND)
+    rows::weigh::<rows::Odd>(row, n, j + 3, &SECOND)
 }
 
 // M of a cell, from its 1000h, x, A and B.
@@ -28,24 +28,14 @@ fn cell_value(h: i64, x: u64, a: i64, b: i64) -> f64
     -(((r * r) * k) / 6000000.0)
 }
 
-// M of cell j, from the rows h, u and 1000h·u.
-fn cell_value_at(n: usize, x: u64, h: &[i64], u: &[i64], hu: &[i64], j: usize) -> f64
-    requires { Bed n x h.now u.now hu.now × (j < n) }
-    ensures { result ≡ M (pos 1000 *ℤ cell h.now j) (1000 * x) (second n u.now j) (second n hu.now j) }
-{
-    cell_value(1000 * h[j], 1000 * x, second(n, u, j), second(n, hu, j))
-}
-
-// M of each cell.
+// M of each cell, from the rows h, u and 1000h·u.
 pub fn cell_values(n: usize, x: u64, h: &[i64], u: &[i64], hu: &[i64]) -> [f64; rule::MOST_CELLS]
     requires { Bed n x h.now u.now hu.now }
     ensures { take n result ≡ Ms n x (rule.bottom n h.now) u.now hu.now }
 {
-    let mut ms = [0.0; 256];
-    let mut j = 0;
-    while j < n {
-        ms[j] = cell_value_at(n, x, h, u, hu, j);
-        j += 1;
+    let mut ms = [0.0; rule::MOST_CELLS];
+    for (j, m) in ms[..n].iter_mut().enumerate() {
+        *m = cell_value(1000 * h[j], 1000 * x, second(n, u, j), second(n, hu, j));
     }
     ms
 }

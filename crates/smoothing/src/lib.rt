@@ -11,6 +11,8 @@ ghost use Rattle.rule.specs.Ranges.{most_height, most_reduced};
 ghost use Rattle.motion.specs.Asked.{Cells};
 ghost use Rattle.motion.specs.Walled.{inner};
 
+use rows::{Even, Odd};
+
 // The filter's weights at a face, on cells j - 3 to j + 4, over 256.
 const FACES: [i64; 8] = [-1, 7, -21, 35, -35, 21, -7, 1];
 
@@ -23,9 +25,10 @@ fn draining(n: usize, e: &[i64], j: usize) -> i64
     ensures { result ≡ inner (n - 1) (λ i. weighed face_weights (even n e.now) (i + 1)) j }
 {
     if j < n - 1 {
-        return rows::weigh_even(e, n, j + 1, &FACES);
+        rows::weigh::<Even>(e, n, j + 1, &FACES)
+    } else {
+        0
     }
-    0
 }
 
 // The heights after the filter.
@@ -33,25 +36,15 @@ pub fn smoothed(n: usize, e: &[i64]) -> [i64; rule::MOST_CELLS]
     requires { Cells most_height n e.now }
     ensures { result ≡ padded n (smoothed n e.now) }
 {
-    let mut row = [0i64; rule::MOST_CELLS];
-    let mut left: i64 = 0;
-    let mut j = 0;
-    while j < n {
-        let a = 0 - draining(n, e, j);
+    let mut row = [0; rule::MOST_CELLS];
+    let mut left = 0;
+    for (j, height) in row[..n].iter_mut().enumerate() {
+        let a = -draining(n, e, j);
         let g = round::rounded(a, 256);
-        row[j] = e[j] + g + left;
-        left = 0 - g;
-        j += 1;
+        *height = e[j] + g + left;
+        left = -g;
     }
     row
-}
-
-// V of cell j after the filter.
-fn smoothed_cell(n: usize, v: &[i64], j: usize) -> i64
-    requires { Cells most_reduced n v.now × (j < n) }
-    ensures { result ≡ rounded (weighed cell_weights (odd n v.now) j) 256 }
-{
-    round::rounded(rows::weigh_odd(v, n, j, &CELLS), 256)
 }
 
 // The reduced velocities after the filter.
@@ -59,11 +52,9 @@ pub fn smoothed_reduced(n: usize, v: &[i64]) -> [i64; rule::MOST_CELLS]
     requires { Cells most_reduced n v.now }
     ensures { result ≡ padded n (smoothed_reduced n v.now) }
 {
-    let mut row = [0i64; rule::MOST_CELLS];
-    let mut j = 0;
-    while j < n {
-        row[j] = smoothed_cell(n, v, j);
-        j += 1;
+    let mut row = [0; rule::MOST_CELLS];
+    for (j, reduced) in row[..n].iter_mut().enumerate() {
+        *reduced = round::rounded(rows::weigh::<Odd>(v, n, j, &CELLS), 256);
     }
     row
 }

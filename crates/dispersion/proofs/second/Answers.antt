@@ -4,9 +4,9 @@ use Rattle.rule.specs.Rows.{sizes}
 use Rattle.rule.specs.Flux.{second}
 use Rattle.dispersion.proofs.second.Goals as goal
 
-pub weigh_odd-requires : goal.weigh_odd-requires
+pub weigh-requires : goal.weigh-requires
 unfolding sizes
-weigh_odd-requires c = search rules
+weigh-requires c = search rules
 
 pub returns : goal.returns
 unfolding second

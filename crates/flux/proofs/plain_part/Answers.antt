@@ -13,16 +13,16 @@ use Rattle.rule.specs.Flux.{plain_part}
 use Rattle.dispersion.specs.Sizes.{plain_sum}
 use Rattle.dispersion.proofs.Laws.{read_small}
 use Rattle.flux.proofs.plain_part.Goals as goal
-use Rattle.flux.proofs.plain_part.Goals.{After-weigh_odd}
+use Rattle.flux.proofs.plain_part.Goals.{After-weigh}
 
-abbrev sum : After-weigh_odd → E
+abbrev sum : After-weigh → E
 sum c =
     let s = c.before.before in
-    res 16_000_000_000_000_000 c.weigh_odd.ensures (plain_sum 1_000_000_000_000_000 s.args.n s.args.p.now s.requires.0.small (omega arith) s.args.j s.requires.1)
+    res 16_000_000_000_000_000 c.weigh.ensures (plain_sum 1_000_000_000_000_000 s.args.n s.args.p.now s.requires.0.small (omega arith) s.args.j s.requires.1)
 
-pub weigh_odd-requires : goal.weigh_odd-requires
+pub weigh-requires : goal.weigh-requires
 unfolding sizes
-weigh_odd-requires c = search rules
+weigh-requires c = search rules
 
 pub rounded-requires : goal.rounded-requires
 rounded-requires c = (le_trans (read_small (sum c) tt) (lit≤ tt), (lit≤ tt, lit≤ tt))
