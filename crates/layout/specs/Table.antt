@@ -1,6 +1,5 @@
 -- The channel file's layout: what holds of each line of the rule's table holds of every edition. Assumes nothing.
 use Rattle.std.specs.Prelude.{ℕ, ◌+◌, ◌*◌, ◌≡◌, refl, Bool, true, false, cond, List, [], ◌∷◌, eqb, length}
-use Rattle.std.proofs.Common.{eq-eqb, ne_eqb}
 use Rattle.rule.specs.Channel.{lengths}
 use Rattle.rule.specs.Layout.{counts_in, widths, head_length, starts, offsets}
 
@@ -19,31 +18,6 @@ each_by P first second none false false = none
 pub of_each : (P : ℕ → List ℕ → Type 0) → P 6 six → P 6 seven → P 0 [] → (edition : ℕ) → P (counts_in edition) (widths edition)
 unfolding counts_in widths
 of_each P first second none edition = each_by P first second none (eqb edition 1) (eqb edition 2)
-
--- how many counts and rows, as the code has them
-pub counts_1 : (edition : ℕ) → edition ≡ 1 → 6 ≡ counts_in edition
-unfolding counts_in
-counts_1 edition e = rw (eq-eqb edition 1 e)
-
-pub counts_2 : (edition : ℕ) → edition ≡ 2 → 6 ≡ counts_in edition
-unfolding counts_in
-counts_2 edition e = rw e
-
-pub counts_none : (edition : ℕ) → (edition ≡ 1 → ⊥) → (edition ≡ 2 → ⊥) → 0 ≡ counts_in edition
-unfolding counts_in
-counts_none edition p q = rw (ne_eqb edition 1 p, ne_eqb edition 2 q)
-
-pub rows_1 : (edition : ℕ) → edition ≡ 1 → 6 ≡ length (widths edition)
-unfolding widths
-rows_1 edition e = rw (eq-eqb edition 1 e)
-
-pub rows_2 : (edition : ℕ) → edition ≡ 2 → 7 ≡ length (widths edition)
-unfolding widths
-rows_2 edition e = rw e
-
-pub rows_none : (edition : ℕ) → (edition ≡ 1 → ⊥) → (edition ≡ 2 → ⊥) → 0 ≡ length (widths edition)
-unfolding widths
-rows_none edition p q = rw (ne_eqb edition 1 p, ne_eqb edition 2 q)
 
 -- each row has its offset
 pub length-offsets : (edition n : ℕ) → length (offsets edition n) ≡ length (widths edition)

@@ -15,18 +15,19 @@ pub const EDITION: u64 = 2;
 // How many bytes a reader has to see of any edition.
 pub const LEAST_LENGTH: usize = 48;
 
-// How many counts stand before the offsets.
+// How many counts stand before the offsets. An edition is a number and no enum, since a file may hold any.
+#[tactic(auto, unfolding(rule::specs::Layout::counts_in))]
 pub fn counts_in(edition: u64) -> usize
     ensures { (result ≡ counts_in edition) × (result ≤ 7) }
 {
     match edition {
-        1 => 6,
-        2 => 6,
+        1 | 2 => 6,
         _ => 0,
     }
 }
 
 // How many rows there are.
+#[tactic(auto, unfolding(rule::specs::Layout::widths))]
 pub fn rows_in(edition: u64) -> usize
     ensures { (result ≡ length (widths edition)) × (result ≤ 7) }
 {
@@ -68,31 +69,27 @@ pub fn length_of(edition: u64, n: usize) -> usize
 }
 
 // Whether the offsets in s are those of a file of n cells.
+#[tactic(auto, unfolding(rule::specs::Layout::head_length))]
 pub fn offsets_right(s: &[u8], edition: u64, n: usize) -> bool
     requires { (head_length edition ≤ length s.now) × ((1 ≤ n) × (n ≤ most_cells)) }
     ensures { result ≡ same (offsets_in edition s.now) (offsets edition n) }
 {
-    let rows = rows_in(edition);
     let first = 4 * counts_in(edition);
     let mut fine = true;
-    let mut i = 0;
-    while i < rows {
-        fine = fine & (little::count_at(s, first + 4 * i) == start_of(edition, i, n) as u64);
-        i += 1;
+    for i in 0..rows_in(edition) {
+        fine &= little::count_at(s, first + 4 * i) == start_of(edition, i, n) as u64;
     }
     fine
 }
 
 // The offsets of a file of n cells, written where they stand.
+#[tactic(auto, unfolding(rule::specs::Layout::head_length))]
 pub fn put_offsets(d: &mut [u8], edition: u64, n: usize)
     requires { (head_length edition ≤ length d.old) × ((1 ≤ n) × (n ≤ most_cells)) }
     ensures { d.new ≡ written d.old (4 * counts_in edition) (head_bytes (offsets edition n)) }
 {
-    let rows = rows_in(edition);
     let first = 4 * counts_in(edition);
-    let mut i = 0;
-    while i < rows {
+    for i in 0..rows_in(edition) {
         little::put_count(d, first + 4 * i, start_of(edition, i, n) as u64);
-        i += 1;
     }
 }

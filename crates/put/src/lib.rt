@@ -29,6 +29,7 @@ fn put_head(d: &mut [u8], c: rule::Counts)
 }
 
 // The rows of four bytes an entry: depth, height, u and V of n cells.
+#[tactic(auto, unfolding(rule::specs::Layout::widths))]
 fn put_cells(d: &mut [u8], n: usize, h: &[i64], e: &[i64], u: &[i64], v: &[i64])
     requires { Buffer n d.old × FourRows n h.now e.now u.now v.now }
     ensures { d.new ≡ written d.old (head_length edition) (body_bytes (4 ∷ 4 ∷ 4 ∷ 4 ∷ []) (h.now ∷ e.now ∷ u.now ∷ v.now ∷ [])) }
@@ -40,6 +41,7 @@ fn put_cells(d: &mut [u8], n: usize, h: &[i64], e: &[i64], u: &[i64], v: &[i64])
 }
 
 // The rows of eight bytes an entry, the levels of flux and of acceleration, and damping, of four.
+#[tactic(auto, unfolding(rule::specs::Layout::widths))]
 fn put_levels(d: &mut [u8], n: usize, q: &[i64], f: &[i64], damping: &[i64])
     requires { Buffer n d.old × Levels n q.now f.now damping.now }
     ensures { d.new ≡ written d.old (start_of edition n 4) (body_bytes (8 ∷ 8 ∷ 4 ∷ []) (q.now ∷ f.now ∷ damping.now ∷ [])) }

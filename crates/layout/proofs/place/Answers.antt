@@ -11,9 +11,8 @@ use Rattle.layout.proofs.place.Goals.{In_default}
 -- the bytes before one of the first rows are few
 few : (c : In_default) → (let a = c.args in 4 * a.i * a.n ≤ 28 * 256)
 few c =
-    let s = c in
-    let i : 4 * s.args.i ≤ 28 = omega (arith, c.rows_in.ensures, s.requires) in
-    mul-le-mul i s.requires.1.1
+    let i : 4 * c.args.i ≤ 28 = omega (arith, c.rows_in.ensures, c.requires) in
+    mul-le-mul i c.requires.1.1
 
 pub overflow_mul-result-in_default-2 : goal.overflow_mul-result-in_default-2
 overflow_mul-result-in_default-2 c = let f = few c in search rules
@@ -24,35 +23,23 @@ overflow_add-result-in_default c = let f = few c in search rules
 pub returns-in-5 : goal.returns-in-5
 unfolding head_length
 returns-in-5 c =
-    let s = c in
-    let r = c.rows_in.ensures in
-    let k = c.counts_in.ensures in
-    let b = before_5 s.args.edition s.args.n s.requires.1.0 s.args.i c.in-5.is s.requires.0 in
-    omega (arith, r, k, b, s.requires)
+    let b = before_5 c.args.edition c.args.n c.requires.1.0 c.args.i c.in-5.is c.requires.0 in
+    omega (arith, c.rows_in.ensures, c.counts_in.ensures, b, c.requires)
 
 pub returns-in-6 : goal.returns-in-6
 unfolding head_length
 returns-in-6 c =
-    let s = c in
-    let r = c.rows_in.ensures in
-    let k = c.counts_in.ensures in
-    let b = before_6 s.args.edition s.args.n s.requires.1.0 s.args.i c.in-6.is s.requires.0 in
-    omega (arith, r, k, b, s.requires)
+    let b = before_6 c.args.edition c.args.n c.requires.1.0 c.args.i c.in-6.is c.requires.0 in
+    omega (arith, c.rows_in.ensures, c.counts_in.ensures, b, c.requires)
 
 pub returns-in-7 : goal.returns-in-7
 unfolding head_length
 returns-in-7 c =
-    let s = c in
-    let r = c.rows_in.ensures in
-    let k = c.counts_in.ensures in
-    let b = before_7 s.args.edition s.args.n s.requires.1.0 s.args.i c.in-7.is s.requires.0 in
-    omega (arith, r, k, b, s.requires)
+    let b = before_7 c.args.edition c.args.n c.requires.1.0 c.args.i c.in-7.is c.requires.0 in
+    omega (arith, c.rows_in.ensures, c.counts_in.ensures, b, c.requires)
 
 pub returns-in_default : goal.returns-in_default
 unfolding head_length
 returns-in_default c =
-    let s = c in
-    let r = c.rows_in.ensures in
-    let k = c.counts_in.ensures in
-    let b = before_cells s.args.edition s.args.n s.requires.1.0 s.args.i (λ e. omega arith) (λ e. omega arith) (λ e. omega arith) s.requires.0 in
-    omega (arith, r, k, b, s.requires)
+    let b = before_cells c.args.edition c.args.n c.requires.1.0 c.args.i (λ e. omega arith) (λ e. omega arith) (λ e. omega arith) c.requires.0 in
+    omega (arith, c.rows_in.ensures, c.counts_in.ensures, b, c.requires)

@@ -1,17 +1,12 @@
 -- `put::put_cells` meets its contract: each row starts where the layout says. Assumes nothing.
 use mathlib.Core.Path.{refl}
 use native.Mathlib.Omega.{arith}
-use borrow.Author.Rules.{rules}
 use Rattle.rule.specs.Channel.{lengths}
 use Rattle.rule.specs.Layout.{widths}
 use Rattle.rule.specs.File.{edition}
 use Rattle.layout.specs.Rows.{row_stands}
 use Rattle.put.specs.Runs.{four_rows}
 use Rattle.put.proofs.put_cells.Goals as goal
-
-pub start_of-requires : goal.start_of-requires
-unfolding widths
-start_of-requires c = search rules
 
 pub write_row-requires : goal.write_row-requires
 unfolding widths lengths
@@ -20,10 +15,6 @@ write_row-requires c =
     let long = p.1.h_long in
     (row_stands edition _ 0 c.start_of.ensures refl long (omega (arith, p.0.sized)) (omega arith), p.1.h_small.at)
 
-pub start_of-requires-2 : goal.start_of-requires-2
-unfolding widths
-start_of-requires-2 c = search rules
-
 pub write_row-requires-2 : goal.write_row-requires-2
 unfolding widths lengths
 write_row-requires-2 c =
@@ -31,20 +22,12 @@ write_row-requires-2 c =
     let long = p.1.e_long in
     (row_stands edition _ 1 c.start_of-2.ensures refl long (omega (arith, p.0.sized)) (omega arith), p.1.e_small.at)
 
-pub start_of-requires-3 : goal.start_of-requires-3
-unfolding widths
-start_of-requires-3 c = search rules
-
 pub write_row-requires-3 : goal.write_row-requires-3
 unfolding widths lengths
 write_row-requires-3 c =
     let p = c.requires in
     let long = p.1.u_long in
     (row_stands edition _ 2 c.start_of-3.ensures refl long (omega (arith, p.0.sized)) (omega arith), p.1.u_small.at)
-
-pub start_of-requires-4 : goal.start_of-requires-4
-unfolding widths
-start_of-requires-4 c = search rules
 
 pub write_row-requires-4 : goal.write_row-requires-4
 unfolding widths lengths

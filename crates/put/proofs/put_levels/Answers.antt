@@ -1,7 +1,6 @@
 -- `put::put_levels` meets its contract: each row starts where the layout says. Assumes nothing.
 use mathlib.Core.Path.{refl}
 use native.Mathlib.Omega.{arith}
-use borrow.Author.Rules.{rules}
 use Rattle.rule.specs.Channel.{lengths}
 use Rattle.rule.specs.Layout.{widths}
 use Rattle.rule.specs.File.{edition}
@@ -9,29 +8,17 @@ use Rattle.layout.specs.Rows.{row_stands}
 use Rattle.put.specs.Runs.{three_rows}
 use Rattle.put.proofs.put_levels.Goals as goal
 
-pub start_of-requires : goal.start_of-requires
-unfolding widths
-start_of-requires c = search rules
-
 pub write_row-requires : goal.write_row-requires
 unfolding widths lengths
 write_row-requires c =
     let p = c.requires in
     (row_stands edition _ 4 c.start_of.ensures refl p.1.q_long (omega (arith, p.0.sized)) (omega arith), λ _ _. tt)
 
-pub start_of-requires-2 : goal.start_of-requires-2
-unfolding widths
-start_of-requires-2 c = search rules
-
 pub write_row-requires-2 : goal.write_row-requires-2
 unfolding widths lengths
 write_row-requires-2 c =
     let p = c.requires in
     (row_stands edition _ 5 c.start_of-2.ensures refl p.1.f_long (omega (arith, p.0.sized)) (omega arith), λ _ _. tt)
-
-pub start_of-requires-3 : goal.start_of-requires-3
-unfolding widths
-start_of-requires-3 c = search rules
 
 pub write_row-requires-3 : goal.write_row-requires-3
 unfolding widths lengths
