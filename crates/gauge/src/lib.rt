@@ -2,12 +2,13 @@
 #![tactic(auto)]
 
 ghost use Rattle.std.specs.Prelude.{◌≡◌, ◌≤◌, nat_abs};
-ghost use Rattle.gauge.specs.Waves.{upward, higher, lower};
-ghost use Rattle.gauge.specs.Gauge.{from, is_empty, in_ranges, below, sound, right, waves, wave_of, grown};
+ghost use Rattle.gauge.specs.Waves.{upward};
+ghost use Rattle.gauge.specs.Gauge.{is_empty, in_ranges, below, sound, right, waves, ended, grown};
+ghost use Rattle.gauge.specs.State.{numbers, gauge_at};
 ghost use Rattle.gauge.specs.Small.{Small};
 
 // Heights are in µm, in the order in which they were fed.
-#[derive(Clone, Copy, Drop)]
+#[derive(Clone, Copy, Debug, Default, Drop, Eq, PartialEq)]
 pub struct Gauge {
     // where it stands, counted from 1
     pub cell: i64,
@@ -36,150 +37,143 @@ pub const MOST_HEIGHT: i64 = 20_000_000;
 pub const MOST_WAVE: i64 = 39_999_000;
 
 // An upward crossing: zero or more directly after below zero.
+#[tactic(auto, unfolding(crate::specs::Waves::upward))]
 fn upward(before: i64, height: i64) -> bool
     ensures { result ≡ upward before height }
 {
     (before < 0) & (0 <= height)
 }
 
-fn higher(a: i64, b: i64) -> i64
-    ensures { result ≡ higher a b }
-{
-    if a < b { b } else { a }
-}
-
-fn lower(a: i64, b: i64) -> i64
-    ensures { result ≡ lower a b }
-{
-    if b < a { b } else { a }
-}
-
-// A number from `least` to `most`.
-fn from(least: i64, most: i64, x: i64) -> bool
-    ensures { result ≡ from least most x }
-{
-    (least <= x) & (x <= most)
-}
-
-// No gauge: all eight numbers are 0.
-pub fn is_empty(g: Gauge) -> bool
-    ensures { result ≡ is_empty g }
-{
-    from(0, 0, g.cell)
-        & from(0, 0, g.fed)
-        & from(0, 0, g.last)
-        & from(0, 0, g.crossings)
-        & from(0, 0, g.highest)
-        & from(0, 0, g.lowest)
-        & from(0, 0, g.largest)
-        & from(0, 0, g.sum)
-}
-
-// Each number alone.
-fn in_ranges(g: Gauge) -> bool
-    ensures { result ≡ in_ranges g }
-{
-    from(1, 256, g.cell)
-        & from(0, MOST_FED, g.fed)
-        & from(LEAST_HEIGHT, MOST_HEIGHT, g.last)
-        & from(0, 500_000, g.crossings)
-        & from(LEAST_HEIGHT, MOST_HEIGHT, g.highest)
-        & from(LEAST_HEIGHT, MOST_HEIGHT, g.lowest)
-        & from(0, MOST_WAVE, g.largest)
-        & from(0, 19_999_460_001_000, g.sum)
-}
-
-// The complete waves: between two crossings each.
-pub fn waves(g: Gauge) -> i64
-    requires { Small g }
-    ensures { result ≡ waves g }
-{
-    if 0 < g.crossings { g.crossings - 1 } else { 0 }
-}
-
-// One height that is of no crossing yet: the last, where it is below zero.
-fn below(g: Gauge) -> i64
-    requires { Small g }
-    ensures { result ≡ below g }
-{
-    if g.last < 0 { 1 } else { 0 }
-}
-
-// What the numbers must meet together.
-fn sound(g: Gauge) -> bool
-    requires { Small g }
-    ensures { result ≡ sound g }
-{
-    (g.lowest <= g.highest)
-        & (2 * g.crossings + below(g) <= g.fed)
-        & (g.largest <= g.sum)
-        & (g.sum <= MOST_WAVE * waves(g))
-}
-
-// A place of the gauges: empty, or a gauge with every number in its range.
-pub fn right(g: Gauge) -> bool
-    ensures { result ≡ right g }
-{
-    if is_empty(g) {
-        return true;
+impl Gauge {
+    // No gauge: all eight numbers are 0.
+    #[tactic(auto, unfolding(crate::specs::Gauge::is_empty, crate::specs::Gauge::from))]
+    pub fn is_empty(self) -> bool
+        ensures { result ≡ is_empty self }
+    {
+        self == Gauge::default()
     }
-    if in_ranges(g) {
-        return sound(g);
+
+    // Each number alone.
+    fn in_ranges(self) -> bool
+        ensures { result ≡ in_ranges self }
+    {
+        (1..=256).contains(&self.cell)
+            & (0..=MOST_FED).contains(&self.fed)
+            & (LEAST_HEIGHT..=MOST_HEIGHT).contains(&self.last)
+            & (0..=500_000).contains(&self.crossings)
+            & (LEAST_HEIGHT..=MOST_HEIGHT).contains(&self.highest)
+            & (LEAST_HEIGHT..=MOST_HEIGHT).contains(&self.lowest)
+            & (0..=MOST_WAVE).contains(&self.largest)
+            & (0..=19_999_460_001_000).contains(&self.sum)
     }
-    false
-}
 
-// The height of the wave that a crossing ends, by its highest and its lowest; 0 where none had begun.
-fn ended(crossings: i64, highest: i64, lowest: i64) -> i64
-    requires { (nat_abs highest ≤ 20_000_000) × (nat_abs lowest ≤ 20_000_000) }
-    ensures { result ≡ wave_of crossings highest lowest }
-{
-    if 0 < crossings { highest - lowest } else { 0 }
-}
+    // The complete waves: between two crossings each.
+    #[tactic(auto, unfolding(crate::specs::Gauge::waves, crate::specs::Gauge::met))]
+    pub fn waves(self) -> i64
+        requires { Small self }
+        ensures { result ≡ waves self }
+    {
+        (self.crossings - 1).max(0)
+    }
 
-// The gauge after one height more. The height of a crossing is of the wave that it begins, and not of the one that it ends.
-pub fn grown(g: Gauge, height: i64) -> Gauge
-    requires { Small g × (nat_abs height ≤ 20_000_000) }
-    ensures { result ≡ grown g height }
-{
-    let crossings = g.crossings;
-    let highest = g.highest;
-    let lowest = g.lowest;
-    let top = higher(highest, height);
-    let low = lower(lowest, height);
-    if upward(g.last, height) {
-        let wave = ended(crossings, highest, lowest);
-        return Gauge {
-            cell: g.cell,
-            fed: g.fed + 1,
+    // One height that is of no crossing yet: the last, where it is below zero.
+    #[tactic(auto, unfolding(crate::specs::Gauge::below))]
+    fn below(self) -> i64
+        ensures { result ≡ below self }
+    {
+        i64::from(self.last < 0)
+    }
+
+    // What the numbers must meet together.
+    fn sound(self) -> bool
+        requires { Small self }
+        ensures { result ≡ sound self }
+    {
+        (self.lowest <= self.highest)
+            & (2 * self.crossings + self.below() <= self.fed)
+            & (self.largest <= self.sum)
+            & (self.sum <= MOST_WAVE * self.waves())
+    }
+
+    // A place of the gauges: empty, or a gauge with every number in its range.
+    #[tactic(auto, unfolding(crate::specs::Gauge::right))]
+    pub fn right(self) -> bool
+        ensures { result ≡ right self }
+    {
+        self.is_empty() || self.in_ranges() && self.sound()
+    }
+
+    // The height of the wave that a crossing ends; 0 where none had begun.
+    #[tactic(auto, unfolding(crate::specs::Gauge::ended, crate::specs::Gauge::wave_of))]
+    fn ended(self) -> i64
+        requires { (nat_abs self.highest ≤ 20_000_000) × (nat_abs self.lowest ≤ 20_000_000) }
+        ensures { result ≡ ended self }
+    {
+        if 0 < self.crossings {
+            self.highest - self.lowest
+        } else {
+            0
+        }
+    }
+
+    // The gauge after one height more. The height of a crossing is of the wave that it begins, and not of the one that it ends.
+    pub fn grown(self, height: i64) -> Gauge
+        requires { Small self × (nat_abs height ≤ 20_000_000) }
+        ensures { result ≡ grown self height }
+    {
+        let fed = Gauge {
+            fed: self.fed + 1,
             last: height,
-            crossings: crossings + 1,
-            highest: height,
-            lowest: height,
-            largest: higher(g.largest, wave),
-            sum: g.sum + wave,
+            ..self
         };
+        let top = self.highest.max(height);
+        let low = self.lowest.min(height);
+        if upward(self.last, height) {
+            let wave = self.ended();
+            return Gauge {
+                crossings: self.crossings + 1,
+                highest: height,
+                lowest: height,
+                largest: self.largest.max(wave),
+                sum: self.sum + wave,
+                ..fed
+            };
+        }
+        if 0 < self.crossings {
+            return Gauge {
+                highest: top,
+                lowest: low,
+                ..fed
+            };
+        }
+        fed
     }
-    if 0 < crossings {
-        return Gauge {
-            cell: g.cell,
-            fed: g.fed + 1,
-            last: height,
+}
+
+// A gauge's eight numbers, in their order.
+impl From<[i64; 8]> for Gauge {
+    ghost from_gives = { λ row g. g ≡ gauge_at row 0 };
+
+    #[tactic(auto, unfolding(crate::specs::State::gauge_at))]
+    fn from([cell, fed, last, crossings, highest, lowest, largest, sum]: [i64; 8]) -> Gauge {
+        Gauge {
+            cell,
+            fed,
+            last,
             crossings,
-            highest: top,
-            lowest: low,
-            largest: g.largest,
-            sum: g.sum,
-        };
+            highest,
+            lowest,
+            largest,
+            sum,
+        }
     }
-    Gauge {
-        cell: g.cell,
-        fed: g.fed + 1,
-        last: height,
-        crossings,
-        highest,
-        lowest,
-        largest: g.largest,
-        sum: g.sum,
+}
+
+impl From<Gauge> for [i64; 8] {
+    ghost from_gives = { λ g row. row ≡ numbers g };
+
+    #[tactic(auto, unfolding(crate::specs::State::numbers))]
+    fn from(g: Gauge) -> [i64; 8] {
+        [g.cell, g.fed, g.last, g.crossings, g.highest, g.lowest, g.largest, g.sum]
     }
 }

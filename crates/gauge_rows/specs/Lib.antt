@@ -1,4 +1,3 @@
 pub mod Passes
-pub mod Twos
 pub mod Chunks
 pub mod Bounds

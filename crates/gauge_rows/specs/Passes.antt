@@ -1,14 +1,14 @@
--- "Gauges": what is asked of each place. Assumes nothing.
-use Rattle.std.specs.Prelude.{Bool}
-use Rattle.std.specs.Int.Signed.{le_z}
+-- "Gauges": what is asked of each place, and the lowest place that does not pass. Assumes nothing.
+use Rattle.std.specs.Prelude.{◌≡◌, ℕ, zero, suc, ◌<◌, Bool, Option, Some, None}
+use Rattle.rule.specs.Rows.{Row}
 use Rattle.gauge.specs.declared.Gauge.{Gauge}
-use Rattle.gauge.specs.Gauge.{right}
-use Rattle.gauge.specs.State.{taken, has_room}
-use Rattle.gauge_rows.specs.declared.Test.{Test}
-use Rattle.gauge_rows.specs.declared.Test.TheVariants.{Right, Taken, Stands, Room}
+use Rattle.gauge.specs.State.{places, gauge_at}
 
-unfoldable pub passes : Test → Gauge → Bool
-passes Right g = right g
-passes Taken g = taken g
-passes (Stands n) g = le_z g.cell n
-passes Room g = has_room g
+-- of each gauge of a row a test answers what p does
+abbrev pub Tells : (Gauge → Bool → Type 0) → (Gauge → Bool) → Row → Type 0
+Tells answers p row = (k : ℕ) (passes : Bool) → k < places → answers (gauge_at row k) passes → passes ≡ p (gauge_at row k)
+
+-- as the code has it: the place, or none
+unfoldable pub found : ℕ → Option ℕ
+found zero = None
+found (suc k) = Some (suc k)

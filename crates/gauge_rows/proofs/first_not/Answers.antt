@@ -1,34 +1,33 @@
--- `gauge_rows::first_not` meets its contract: `place` is the lowest of the places passed. Assumes nothing.
-use mathlib.Core.Path.{◌≡◌, ◌∙◌, ap}
-use native.Mathlib.Omega.{arith}
+-- `gauge_rows::first_not` meets its contract. Assumes nothing.
+use Rattle.std.proofs.Common.{◌≡◌, sym, ◌∙◌, ap, subst, arith}
 use Rattle.whole.specs.Row.{tab}
-use Rattle.rule.specs.Rows.{lowest}
-use Rattle.places.specs.Lowest.{lower, lower_none, lower_more}
+use Rattle.rule.specs.Rows.{all}
+use Rattle.rows.specs.All.{all_none, all_more}
+use Rattle.gauge.specs.declared.Gauge.{Gauge}
 use Rattle.gauge.specs.State.{gauge_at, gauges_in}
-use Rattle.gauge_rows.specs.Passes.{passes}
+use Rattle.gauge_rows.proofs.First.{found_at, found_none}
 use Rattle.gauge_rows.proofs.first_not.Goals as goal
 
 pub loop-k-init : goal.loop-k-init
-loop-k-init c = (omega arith, lower_none (passes c.args.test) (gauge_at c.args.row.now))
+loop-k-init g c = λ p t. all_none p (gauge_at c.args.row.now)
 
-pub gauge_at-requires : goal.gauge_at-requires
-gauge_at-requires c = let s = c.before.before in omega (arith, s.requires)
-
-pub loop-k-smaller : goal.loop-k-smaller
-loop-k-smaller c = omega arith
+pub returns-then-not-passes : goal.returns-then-not-passes
+unfolding gauges_in
+returns-then-not-passes g c = λ p t.
+    let row = c.args.row.now in
+    let k = c.loop-k.k in
+    let answered = subst (λ (x : Gauge). g.F.Fn.post c.args.passes (x, tt) c.passes.result) {y = gauge_at row k} c.gauge_at.ensures c.passes.ensures in
+    found_at p (gauge_at row) 8 k (omega arith) (c.loop-k.invariant p t) (sym (t k c.passes.result (omega arith) answered) ∙ c.if-not-passes.true)
 
 pub loop-k-preserved : goal.loop-k-preserved
-loop-k-preserved c =
-    let s = c.before.before.before.before.before in
-    let l = c.before.before.before.before.loop-k in
-    let p = passes s.args.test in
-    let f = gauge_at s.args.row.now in
-    let fits = c.before.passes.ensures ∙ ap p c.before.before.gauge_at.ensures in
-    (omega arith, c.lower-place.ensures ∙ (λ i. lower (l.invariant.1 i) (fits i) l.k) ∙ lower_more p f l.k)
+loop-k-preserved g c = λ p t.
+    let row = c.args.row.now in
+    let k = c.loop-k.k in
+    let answered = subst (λ (x : Gauge). g.F.Fn.post c.args.passes (x, tt) c.passes.result) {y = gauge_at row k} c.gauge_at.ensures c.passes.ensures in
+    all_more p (gauge_at row) k (c.loop-k.invariant p t) (sym (t k c.passes.result (omega arith) answered) ∙ c.if-not-passes.false)
 
 pub returns : goal.returns
 unfolding gauges_in
-returns c =
-    let a = c.before.before.args in
-    let e : c.before.loop-k.k ≡ 8 = omega arith in
-    c.before.loop-k.invariant.1 ∙ ap (λ n. lowest (passes a.test) (tab n (gauge_at a.row.now))) e
+returns g c = λ p t.
+    let e : c.loop-k.k ≡ 8 = omega arith in
+    found_none p (gauge_at c.args.row.now) 8 (ap (λ n. all p (tab n (gauge_at c.args.row.now))) (sym e) ∙ c.loop-k.invariant p t)

@@ -1,4 +1,4 @@
--- `gauge::sound` meets its contract. Assumes nothing.
+-- `gauge::Gauge::sound` meets its contract. Assumes nothing.
 use mathlib.Core.Path.{◌≡◌}
 use mathlib.Core.Bool.{◌&&◌}
 use lib.IntN.{ℤ, pos}
@@ -8,7 +8,7 @@ use Rattle.gauge.specs.Gauge.{sound, below, waves}
 use Rattle.gauge.specs.declared.Gauge.{Gauge}
 use Rattle.gauge.specs.Small.{Small}
 use Rattle.gauge.specs.Laws.{below_small, waves_small}
-use Rattle.gauge.proofs.sound.Goals as goal
+use Rattle.gauge.proofs.Gauge.sound.Goals as goal
 
 -- the least heights for the crossings
 abbrev doubled : (g : Gauge) → Small g → E
@@ -22,18 +22,18 @@ abbrev most : (g : Gauge) → Small g → {z : ℤ} → z ≡ waves g → E
 most g p e = mul (lit (pos 39_999_000)) (res 500_001 e (waves_small g p))
 
 pub overflow_mul-result : goal.overflow_mul-result
-overflow_mul-result c = need (doubled c.args.g c.requires) tt
+overflow_mul-result c = need (doubled c.args.self c.requires) tt
 
 pub overflow_add-result : goal.overflow_add-result
-overflow_add-result c = need (least c.args.g c.requires c.below.ensures) tt
+overflow_add-result c = need (least c.args.self c.requires c.below.ensures) tt
 
 pub overflow_mul-result-2 : goal.overflow_mul-result-2
-overflow_mul-result-2 c = need (most c.args.g c.requires c.waves.ensures) tt
+overflow_mul-result-2 c = need (most c.args.self c.requires c.waves.ensures) tt
 
 pub returns : goal.returns
 unfolding sound
 returns c =
-    let g = c.args.g in
+    let g = c.args.self in
     let p = c.requires in
     let lowest = back g.lowest 20_000_000 p.lowest tt in
     let highest = back g.highest 20_000_000 p.highest tt in
