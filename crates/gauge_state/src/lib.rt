@@ -1,18 +1,21 @@
 // "Gauges": eight of them in a byte string, with the refusals that are theirs: 12, 14, 20, 21, 30 and 15.
 #![tactic(auto)]
 
-ghost use Rattle.std.specs.Prelude.{◌≡◌, [], ◌≤◌, pos, length};
+ghost use Rattle.std.specs.Prelude.{◌≡◌, Bool, [], ◌≤◌, pos, length};
 ghost use Rattle.rule.specs.Rows.{lowest};
 ghost use Rattle.whole.specs.Row.{Within};
 ghost use Rattle.rule.specs.Ranges.{most_cells, most_height};
 ghost use Rattle.rule.specs.Refusals.{fault_of};
 ghost use Rattle.rule.specs.Calls.{called, plainly};
 ghost use Rattle.answers.specs.Stages.{leaves_bytes};
+ghost use Rattle.gauge.specs.declared.Gauge.{Gauge};
 ghost use Rattle.gauge.specs.Gauge.{gauge_of};
 ghost use Rattle.gauge.specs.State.{state_length, state_row, gauges_of, formed, free, placeable, placed, feedable, fed, readable};
 ghost use Rattle.gauge.specs.OnGauges.{read_state};
-ghost use Rattle.gauge_rows.specs.Passes.{passes};
+ghost use Rattle.gauge_rows.specs.Passes.{Tells, found};
 ghost use Rattle.gauge_state.specs.Left.{leaves_row};
+
+use gauge::Gauge;
 
 // How many numbers the places have, and how many bytes.
 pub const NUMBERS: usize = 64;
@@ -32,13 +35,14 @@ fn opened(gauges: &[u8]) -> [i64; NUMBERS]
     row
 }
 
-// The lowest place, counted from 1, that does not pass; 0 where each does.
-fn first_not(gauges: &[u8], test: gauge_rows::Test) -> u64
-    requires { length gauges.now ≡ state_length }
-    ensures { result ≡ lowest (passes test) (gauges_of gauges.now) }
+// The lowest place, counted from 1, whose gauge does not pass.
+fn first_not<F: Fn(Gauge) -> bool>(gauges: &[u8], passes: F) -> Option<u64>
+    requires long { length gauges.now ≡ state_length }
+    requires callable { F.IsAlwaysCallable passes }
+    ensures { (p : Gauge → Bool) → Tells (F.post passes) p (state_row gauges.now) → result ≡ found (lowest p (gauges_of gauges.now)) }
 {
     let row = opened(gauges);
-    gauge_rows::first_not(&row[..NUMBERS], test)
+    gauge_rows::first_not(&row[..NUMBERS], passes)
 }
 
 // 12, then 14.
@@ -51,7 +55,7 @@ fn form(gauges: &[u8]) -> rule::Fault
             place: 0,
         };
     }
-    if first_not(gauges, gauge_rows::Test::Right) != 0 {
+    if first_not(gauges, Gauge::right).is_some() {
         return rule::Fault {
             number: 14,
             place: 0,
@@ -71,7 +75,7 @@ fn place_fault(n: usize, cell: u64, gauges: &[u8]) -> rule::Fault
     if fault.number != 0 {
         return fault;
     }
-    if first_not(gauges, gauge_rows::Test::Taken) == 0 {
+    if first_not(gauges, |g| !g.is_empty()).is_none() {
         return rule::Fault {
             number: 20,
             place: 0,
@@ -98,13 +102,13 @@ fn feed_fault(n: usize, gauges: &[u8]) -> rule::Fault
     if fault.number != 0 {
         return fault;
     }
-    if first_not(gauges, gauge_rows::Test::Stands(n as i64)) != 0 {
+    if first_not(gauges, |g| g.cell <= n as i64).is_some() {
         return rule::Fault {
             number: 21,
             place: 0,
         };
     }
-    if first_not(gauges, gauge_rows::Test::Room) != 0 {
+    if first_not(gauges, |g| g.fed < gauge::MOST_FED).is_some() {
         return rule::Fault {
             number: 30,
             place: 0,
@@ -137,19 +141,13 @@ fn read_fault(gauges: &[u8], room: usize) -> rule::Fault
 }
 
 // A gauge that was fed nothing.
-fn fresh(cell: u64) -> gauge::Gauge
+fn fresh(cell: u64) -> Gauge
     requires { cell ≤ most_cells }
     ensures { result ≡ gauge_of (pos cell) [] }
 {
-    gauge::Gauge {
+    Gauge {
         cell: cell as i64,
-        fed: 0,
-        last: 0,
-        crossings: 0,
-        highest: 0,
-        lowest: 0,
-        largest: 0,
-        sum: 0,
+        ..Gauge::default()
     }
 }
 
@@ -163,7 +161,9 @@ pub fn place(n: usize, cell: u64, gauges: &mut [u8]) -> rule::Answer
         return answers::refused(fault, 0);
     }
     let mut row = opened(gauges);
-    let free = gauge_rows::first_not(&row[..NUMBERS], gauge_rows::Test::Taken);
+    let Some(free) = gauge_rows::first_not(&row[..NUMBERS], |g| !g.is_empty()) else {
+        unreachable!();
+    };
     gauge_rows::put_gauge(&mut row[..NUMBERS], 8 * (free as usize - 1), fresh(cell));
     little::write_row::<i64>(gauges, 0, &row[..NUMBERS]);
     answers::accepted(free)
