@@ -4,7 +4,7 @@ use Rattle.std.specs.Io.KnownBytes.{Consumes}
 use Rattle.input.proofs.read.Given as goal
 
 abbrev pub invariant-loop-end : goal.invariant-loop-end
-invariant-loop-end g l = (l.end ≤ length l.buf) × (length l.buf ≡ length l.initial.buf) × Consumes (g.R.Read.remaining l.initial.reader) (g.R.Read.remaining l.reader) (take l.end l.buf)
+invariant-loop-end g l = (length l.buf ≡ length l.initial.buf) × (l.end ≤ length l.buf) × Consumes (g.R.Read.remaining l.initial.reader) (g.R.Read.remaining l.reader) (take l.end l.buf)
 
 abbrev pub decreases-loop-end : goal.decreases-loop-end
-decreases-loop-end g l = length l.buf - l.end
+decreases-loop-end g l = length l.initial.buf - l.end

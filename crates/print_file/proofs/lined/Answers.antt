@@ -1,8 +1,7 @@
--- The line stands at the start of its buffer, which has 64 bytes.
-use Rattle.std.proofs.Common.{◌≡◌, ℕ, List, length, take, refl, sym, ap, ◌∙◌, arith}
+-- The line stands at the start of its buffer.
+use Rattle.std.proofs.Common.{◌≡◌, ℕ, List, length, take, sym, ap, ◌∙◌}
 use lib.Seq.{take_at}
 use Rattle.little.specs.Written.{written}
-use Rattle.line.specs.Held.{still_64}
 use Rattle.print_file.proofs.lined.Goals as goal
 
 -- a line x put into d, and the first r bytes of that
@@ -13,5 +12,4 @@ at_start d e x r p q = ap (take r) q ∙ take_at x _ r (sym p)
 pub returns : goal.returns
 returns c =
     let q = c.line-end.ensures in
-    let long = still_64 _ _ c.line-end.new.d c.line-end.result q.0 q.1 q.2 refl in
-    (at_start _ _ _ c.line-end.result q.0 q.1, omega (arith, long, q.2))
+    at_start _ _ _ c.line-end.result q.0 q.1
