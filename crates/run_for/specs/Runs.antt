@@ -1,6 +1,7 @@
 -- Refusal numbers: a run as the answers of its steps make it. Assumes nothing.
-use Rattle.std.specs.Prelude.{ℕ, zero, suc, ◌+◌, ◌-◌, ◌≤◌, ◌<◌, ◌≡◌, refl, Bool, true, false, cond, [], ◌∷◌, ltb, pos, length, take, replicate}
+use Rattle.std.specs.Prelude.{ℕ, zero, suc, ◌+◌, ◌-◌, ◌≤◌, ◌<◌, ◌≡◌, min, refl, Bool, true, false, cond, [], ◌∷◌, ltb, pos, length, take, replicate}
 use Rattle.std.proofs.Common.{suc-add, sym, ◌∙◌, ap, add-one, arith, ltb-true, lt-ltb, le-ltb}
+use Rattle.std.proofs.Math.Decide.{dec_lt}
 use Rattle.rule.specs.declared.Answer.{Answer}
 use Rattle.rule.specs.declared.Fault.{Fault}
 use Rattle.rule.specs.Rows.{Row}
@@ -77,6 +78,13 @@ fewer_most most left h = rw (lt-ltb most left h)
 pub fewer_left : (most left : ℕ) → left ≤ most → left ≡ fewer_of most left
 unfolding fewer_of
 fewer_left most left h = rw (le-ltb most left h)
+
+min_by : (most left : ℕ) → Dec (most < left) → min most left ≡ fewer_of most left
+min_by most left (yes h) = let e : min most left ≡ most = omega arith in e ∙ fewer_most most left h
+min_by most left (no h) = let e : min most left ≡ left = omega arith in e ∙ fewer_left most left (omega arith)
+
+pub min_fewer : (most left : ℕ) → min most left ≡ fewer_of most left
+min_fewer most left = min_by most left (dec_lt most left)
 
 by_test : (b : Bool) (most left : ℕ) → ltb most left ≡ b → cond b most left ≤ left
 by_test true most left e = let h = ltb-true most left e in omega arith

@@ -4,14 +4,6 @@
 ghost use Rattle.std.specs.Prelude.{◌≡◌};
 ghost use Rattle.rule.specs.Counted.{counted, left};
 ghost use Rattle.rule.specs.Calls.{run_for_call};
-ghost use Rattle.run_for.specs.Runs.{fewer_of};
-
-// The steps that a run takes: as many as it may, or all that are left where those are fewer.
-fn fewer(most: u64, left: u64) -> u64
-    ensures { result ≡ fewer_of most left }
-{
-    if most < left { most } else { left }
-}
 
 // At most `most` steps, for a caller who stops between calls.
 pub fn run_for(
@@ -36,29 +28,20 @@ pub fn run_for(
     }
     let n = c.n;
     let mut accepted = c.accepted;
-    let mut count = 0;
-    let mut steps = fewer(most, c.wanted - c.accepted);
-    while steps > 0 {
+    let steps = most.min(c.wanted - c.accepted);
+    for count in 0..steps {
         let nothing = [0i64; rule::MOST_CELLS];
         let r = step::step(c.after(accepted), h, e, u, v, q, f, damping, &nothing[..n]);
         accepted = r.accepted;
-        let a = r.answer;
-        if a.number != 0 {
+        if r.answer.number != 0 {
             return rule::Left {
-                answer: rule::Answer {
-                    number: a.number,
-                    stage: a.stage,
-                    place: a.place,
-                    count,
-                },
+                answer: rule::Answer { count, ..r.answer },
                 accepted,
             };
         }
-        count += 1;
-        steps -= 1;
     }
     rule::Left {
-        answer: answers::at_end(accepted, c.wanted, count),
+        answer: answers::at_end(accepted, c.wanted, steps),
         accepted,
     }
 }
