@@ -1,8 +1,7 @@
 // Flux: M of each cell, the dispersive part before it is taken to the faces.
 #![tactic(auto)]
 
-ghost use Rattle.std.specs.Prelude.{◌≡◌, ◌*◌, ◌<◌, pos, ◌*ℤ◌, take};
-ghost use Rattle.rule.specs.Rows.{cell};
+ghost use Rattle.std.specs.Prelude.{◌≡◌, ◌<◌, take};
 ghost use Rattle.rule.specs.Channel as rule;
 ghost use Rattle.rule.specs.Flux.{second, M, Ms};
 ghost use Rattle.dispersion.specs.Asked.{Cells, Cell, Bed};

@@ -1,11 +1,10 @@
 // Filtering: how a row of heights, which moves over faces, and a row of reduced velocities are smoothed.
 #![tactic(auto)]
 
-ghost use Rattle.std.specs.Prelude.{◌≡◌, ◌+◌, ◌-◌, ◌<◌};
+ghost use Rattle.std.specs.Prelude.{◌≡◌, ◌+◌, ◌-◌};
 ghost use Rattle.whole.specs.Row.{padded};
-ghost use Rattle.rule.specs.Filter.{face_weights, cell_weights, smoothed, smoothed_reduced};
-ghost use Rattle.rule.specs.Mirror.{even, odd};
-ghost use Rattle.rule.specs.Rounded.{rounded};
+ghost use Rattle.rule.specs.Filter.{face_weights, smoothed, smoothed_reduced};
+ghost use Rattle.rule.specs.Mirror.{even};
 ghost use Rattle.rule.specs.Rows.{weighed};
 ghost use Rattle.rule.specs.Ranges.{most_height, most_reduced};
 ghost use Rattle.motion.specs.Asked.{Cells};
