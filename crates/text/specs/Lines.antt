@@ -1,6 +1,6 @@
 -- The channel file: the printed line by its parts, and how long it is. Assumes nothing.
-use Rattle.std.specs.Prelude.{ℕ, ◌+◌, ◌*◌, ◌^◌, ◌≤◌, ◌<◌, ◌≡◌, refl, Bool, true, false, cond, List, [], ◌∷◌, ◌++◌, eqb, ℤ, nat_abs, length}
-use Rattle.std.proofs.Common.{arith, eq-eqb, ne_eqb, sym, ap, subst, ◌∙◌, append_assoc}
+use Rattle.std.specs.Prelude.{ℕ, ◌+◌, ◌*◌, ◌^◌, ◌≤◌, ◌<◌, ◌≡◌, refl, Bool, true, false, cond, List, [], ◌∷◌, ◌++◌, eqb, nat_abs, length}
+use Rattle.std.proofs.Common.{arith, eq-eqb, ne_eqb, ap, ◌∙◌, append_assoc}
 use Rattle.std.proofs.Math.ListN.{length-append}
 use Rattle.whole.specs.Row.{Within}
 use Rattle.rule.specs.Rows.{Row, sum}
@@ -70,9 +70,9 @@ counts_short {n} {accepted} {wanted} p =
       length_count n 32,
       length_count accepted 32,
       length_count wanted 32,
-      length-decimal 2 n (omega (arith, p.cells)),
-      length-decimal 9 accepted (omega (arith, p.accepted_held)),
-      length-decimal 9 wanted (omega (arith, p.wanted_held)),
+      length-decimal 2 n (omega (arith, p.cells)) (omega (arith, p.cells)),
+      length-decimal 9 accepted (omega (arith, p.accepted_held)) (omega (arith, p.accepted_held)),
+      length-decimal 9 wanted (omega (arith, p.wanted_held)) (omega (arith, p.wanted_held)),
     )
 
 length-cond : (b : Bool) (x y : List ℕ) → length x ≡ 5 → length y ≡ 5 → length (cond b x y) ≡ 5
@@ -89,10 +89,7 @@ module _ (e : Row) (w : Within most_height (length e) e) (l : length e ≤ most_
   sum_most = sum-within most_height most_cells e w l
 
   pub digits_short : length (signed_decimal (sum e)) ≤ 11
-  digits_short = length-signed 9 (sum e) (omega (arith, sum_most))
-
-  pub sum_asked : (z : ℤ) (at room : ℕ) → z ≡ sum e → at + 12 ≤ room → (at + length (signed_decimal z) ≤ room) × (nat_abs z ≤ 2 ^ 62)
-  sum_asked z at room q h = subst (λ x. (at + length (signed_decimal x) ≤ room) × (nat_abs x ≤ 2 ^ 62)) (sym q) (omega (arith, digits_short), omega (arith, sum_most))
+  digits_short = length-signed 9 (sum e) (omega (arith, sum_most)) (omega (arith, sum_most))
 
   sum_short : length (sum_text e) ≤ 12
   unfolding sum_text
@@ -112,7 +109,7 @@ line_short {n} {accepted} {wanted} {e} p =
 
 pub refused_short : (k : ℕ) → k ≤ 38 → length (refused_of k) ≤ 64
 unfolding refused_of
-refused_short k h = omega (arith, length_count k 10, length-decimal 1 k (omega arith))
+refused_short k h = omega (arith, length_count k 10, length-decimal 1 k (omega arith) (omega arith))
 
 -- the two words
 pub is_done : (accepted wanted : ℕ) → accepted ≡ wanted → done_word ≡ state_text accepted wanted

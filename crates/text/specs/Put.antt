@@ -1,38 +1,26 @@
--- The channel file: text put into a buffer from left to right. Assumes nothing.
-use Rattle.std.specs.Prelude.{ℕ, ◌+◌, ◌≤◌, ◌<◌, ◌≡◌, refl, List, [], ◌∷◌, ◌++◌, length, take, drop, get_or, set}
-use Rattle.std.proofs.Common.{arith, add-one, sym, ap, ◌∙◌, append_assoc, length-append, take-suc}
-use Rattle.std.proofs.lemmas.List.Edits.{sets-eq}
-use Rattle.little.specs.Written.{written, written_none, written_then}
+-- The channel file: text put into a buffer from left to right, by a pen. Assumes nothing.
+use Rattle.std.specs.Prelude.{ℕ, ◌+◌, ◌≤◌, ◌≡◌, List, ◌++◌, length}
+use Rattle.std.proofs.Common.{arith, ap, ◌∙◌, length-append}
+use Rattle.little.specs.Written.{written, written_then}
+use Rattle.text.specs.declared.Pen.{Pen}
 
--- e is d with the text x from `at` on, and x ends before `next`
-pub record Put (d : List ℕ) (at : ℕ) (x e : List ℕ) (next : ℕ) : Type 0 where
-  pub is : e ≡ written d at x
-  pub ends : next ≡ at + length x
+-- a pen p puts the text x into its buffer, and is q after it
+pub record Put (p : Pen) (x : List ℕ) (q : Pen) : Type 0 where
+  pub is : q.d.now ≡ written p.d.now p.at x
+  pub ends : q.at ≡ p.at + length x
+  pub kept : length q.d.now ≡ length p.d.now
+  pub same : q.d.ghost_name ≡ p.d.ghost_name
 
 -- the same text in other words
-pub put_as : {d x e : List ℕ} {at next : ℕ} (y : List ℕ) → Put d at x e next → x ≡ y → Put d at y e next
-put_as {d} {x} {e} {at} {next} y p q = record { is = p.is ∙ ap (written d at) q; ends = p.ends ∙ ap (λ t. at + length t) q }
-
-pub put_ends : {d x e : List ℕ} {at m n : ℕ} → Put d at x e m → m ≡ n → Put d at x e n
-put_ends p q = record { is = p.is; ends = sym q ∙ p.ends }
+pub put_as : {p q : Pen} {x : List ℕ} (y : List ℕ) → Put p x q → x ≡ y → Put p y q
+put_as {p} y w e = record { is = w.is ∙ ap (written p.d.now p.at) e; ends = w.ends ∙ ap (λ t. p.at + length t) e; kept = w.kept; same = w.same }
 
 -- one text after the other
-pub put_then : {d x e y f : List ℕ} {at m n : ℕ} → Put d at x e m → Put e m y f n → at ≤ length d → Put d at (x ++ y) f n
-put_then {d} {x} {e} {y} {f} {at} {m} {n} p q h =
+pub put_then : {p q r : Pen} {x y : List ℕ} → Put p x q → Put q y r → p.at ≤ length p.d.now → Put p (x ++ y) r
+put_then {p} {q} {r} {x} {y} v w h =
     record {
-      is = q.is ∙ ap (λ t. written t m y) p.is ∙ written_then d at x y m p.ends h;
-      ends = omega (arith, p.ends, q.ends, length-append x y);
+      is = w.is ∙ ap (λ t. written t q.at y) v.is ∙ written_then p.d.now p.at x y q.at v.ends h;
+      ends = omega (arith, v.ends, w.ends, length-append x y);
+      kept = w.kept ∙ v.kept;
+      same = w.same ∙ v.same;
     }
-
--- a byte, as it is stored
-pub put_one : (d : List ℕ) (at b : ℕ) → at + 1 ≤ length d → Put d at (b ∷ []) (set d at b) (at + 1)
-unfolding written
-put_one d at b h = record { is = sets-eq (b ∷ []) d at h ∙ append_assoc (take at d) (b ∷ []) (drop (at + 1) d); ends = refl }
-
--- nothing, and one byte more of a word
-pub put_none : (d : List ℕ) (at : ℕ) → Put d at [] d (at + 0)
-put_none d at = record { is = sym (written_none d at); ends = refl }
-
-pub put_more : (word : List ℕ) {d e : List ℕ} {at j : ℕ} → Put d at (take j word) e (at + j) → at + j + 1 ≤ length e → at ≤ length d → j < length word → Put d at (take (j + 1) word) (set e (at + j) (get_or word j 0)) (at + (j + 1))
-put_more word {d} {e} {at} {j} p h l q =
-    put_ends (put_as (take (j + 1) word) (put_then p (put_one e (at + j) (get_or word j 0) h) l) (sym (take-suc word j 0 q) ∙ ap (λ k. take k word) (sym (add-one j)))) (omega arith)

@@ -1,4 +1,4 @@
--- `text::sum_of` meets its contract. The first j heights are added. Assumes nothing.
+-- `text::sum_of` meets its contract. The heights before this one are added. Assumes nothing.
 use Prim.Native.Nat.{◌*◌}
 use mathlib.Core.Path.{refl, ap, ◌∙◌}
 use native.Mathlib.Omega.{arith}
@@ -9,31 +9,28 @@ use Rattle.rule.specs.Rows.{sum, cell}
 use Rattle.rule.specs.Ranges.{most_cells, most_height}
 use Rattle.text.specs.Sums.{sum-small, sum_more}
 use Rattle.text.proofs.sum_of.Goals as goal
-use Rattle.text.proofs.sum_of.Goals.{At-loop-j, In-loop-j}
+use Rattle.text.proofs.sum_of.Goals.{At-loop-height, In-loop-height}
 
-abbrev acc : At-loop-j → E
+abbrev acc : At-loop-height → E
 acc c =
     let row = c.args.row.now in
-    held (most_cells * most_height) c.loop-j.auto.total-fits c.loop-j.invariant.1
-    (sum-small most_height most_cells row (length row) c.loop-j.j c.requires.1 c.loop-j.invariant.0 c.requires.0)
+    held (most_cells * most_height) c.loop-height.auto.total-fits c.loop-height.invariant.1
+    (sum-small most_height most_cells row (length row) c.loop-height.height-index c.requires.1 c.loop-height.invariant.0 c.requires.0)
 
-abbrev next : In-loop-j → E
+abbrev next : In-loop-height → E
 next c =
     let row = c.args.row.now in
-    add (acc c.before) (var (cell row c.loop-j.j) most_height (c.requires.1.at c.loop-j.j c.loop-j-test.true))
+    add (acc c.before) (var (cell row c.loop-height.height-index) most_height (c.requires.1.at c.loop-height.height-index c.loop-height-test.true))
 
-pub loop-j-init : goal.loop-j-init
+pub loop-height-init : goal.loop-height-init
 unfolding sum
-loop-j-init c = (omega arith, refl)
+loop-height-init c = (omega arith, refl)
 
 pub overflow_add-total : goal.overflow_add-total
 overflow_add-total c = need (next c.before) tt
 
-pub loop-j-smaller : goal.loop-j-smaller
-loop-j-smaller c = omega arith
-
-pub loop-j-preserved : goal.loop-j-preserved
-loop-j-preserved c = (omega arith, rd_is (next c.before) tt ∙ sum_more c.args.row.now c.loop-j.j (omega arith))
+pub loop-height-preserved : goal.loop-height-preserved
+loop-height-preserved c = (omega arith, rd_is (next c.before) tt ∙ sum_more c.args.row.now c.loop-height.height-index (omega arith))
 
 pub returns : goal.returns
-returns c = rd_is (acc c.before) tt ∙ ap sum (take_all c.loop-j.j c.args.row.now (omega arith))
+returns c = rd_is (acc c.before) tt ∙ ap sum (take_all c.loop-height.height-index c.args.row.now (omega arith))
