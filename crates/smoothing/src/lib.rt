@@ -38,8 +38,8 @@ pub fn smoothed(n: usize, e: &[i64]) -> [i64; rule::MOST_CELLS]
     let mut row = [0; rule::MOST_CELLS];
     let mut left = 0;
     for (j, height) in row[..n].iter_mut().enumerate() {
-        let a = -draining(n, e, j);
-        let g = round::rounded(a, 256);
+        let drained = draining(n, e, j);
+        let g = round::rounded(-drained, 256);
         *height = e[j] + g + left;
         left = -g;
     }

@@ -48,31 +48,31 @@ module _ {n : ℕ} {e : Row} (p : Cells most_height n e) (j : ℕ) (l : j < n) w
 pub loop-j-init : goal.loop-j-init
 loop-j-init c = (filled_start _ _, refl)
 
-pub overflow_sub-a : goal.overflow_sub-a
-overflow_sub-a c = need (gains c.requires c.loop-j.j (firsts_lt _ c.loop-j-test.true) c.draining-a.ensures) tt
+pub overflow_sub-drained : goal.overflow_sub-drained
+overflow_sub-drained c = need (gains c.requires c.loop-j.j (firsts_lt _ c.loop-j-test.true) c.draining-drained.ensures) tt
 
 pub rounded-g-requires : goal.rounded-g-requires
 rounded-g-requires c =
-    let a = gains c.requires c.loop-j.j (firsts_lt _ c.loop-j-test.true) c.draining-a.ensures in
+    let a = gains c.requires c.loop-j.j (firsts_lt _ c.loop-j-test.true) c.draining-drained.ensures in
     (rw (rd_is a tt) (le_trans (abs≤ a) (lit≤ tt)), (lit≤ tt, lit≤ tt))
 
 pub overflow_add-height : goal.overflow_add-height
 overflow_add-height c =
-    need (less c.requires c.loop-j.j (firsts_lt _ c.loop-j-test.true) c.draining-a.ensures c.rounded-g.ensures) tt
+    need (less c.requires c.loop-j.j (firsts_lt _ c.loop-j-test.true) c.draining-drained.ensures c.rounded-g.ensures) tt
 
 pub overflow_add-height-in-loop-j : goal.overflow_add-height-in-loop-j
 overflow_add-height-in-loop-j c =
-    need (value c.requires c.loop-j.j (firsts_lt _ c.loop-j-test.true) c.draining-a.ensures c.rounded-g.ensures c.loop-j.auto.left c.loop-j.invariant.1) tt
+    need (value c.requires c.loop-j.j (firsts_lt _ c.loop-j-test.true) c.draining-drained.ensures c.rounded-g.ensures c.loop-j.auto.left c.loop-j.invariant.1) tt
 
 pub overflow_sub-left : goal.overflow_sub-left
 overflow_sub-left c =
-    need (onward c.requires c.loop-j.j (firsts_lt _ c.loop-j-test.true) c.draining-a.ensures c.rounded-g.ensures) tt
+    need (onward c.requires c.loop-j.j (firsts_lt _ c.loop-j-test.true) c.draining-drained.ensures c.rounded-g.ensures) tt
 
 pub loop-j-preserved : goal.loop-j-preserved
 loop-j-preserved c =
     let l = firsts_lt _ c.loop-j-test.true in
     let faces = Gs c.args.n c.args.e.now in
-    (filled_step c.loop-j.invariant.0 (rd_is (value c.requires c.loop-j.j l c.draining-a.ensures c.rounded-g.ensures c.loop-j.auto.left c.loop-j.invariant.1) tt) c.loop-j-test.true, rd_is (onward c.requires c.loop-j.j l c.draining-a.ensures c.rounded-g.ensures) tt ∙ given_on (cell faces (suc c.loop-j.j)) ∙ ap (cell faces) (sym (add-one c.loop-j.j)))
+    (filled_step c.loop-j.invariant.0 (rd_is (value c.requires c.loop-j.j l c.draining-drained.ensures c.rounded-g.ensures c.loop-j.auto.left c.loop-j.invariant.1) tt) c.loop-j-test.true, rd_is (onward c.requires c.loop-j.j l c.draining-drained.ensures c.rounded-g.ensures) tt ∙ given_on (cell faces (suc c.loop-j.j)) ∙ ap (cell faces) (sym (add-one c.loop-j.j)))
 
 pub returns : goal.returns
 unfolding zeros smoothed drains
