@@ -43,7 +43,7 @@ pub fn advance(
         let before_u: &[i64] = &velocities;
         let before_q: &[i64] = &fluxes;
         let before_f: &[i64] = &accelerations;
-        let new = stage::stage(true, c, h, before_e, v, q, f, damping, s, before_q, before_f);
+        let new = stage::stage(true, c, h, e, v, q, f, damping, s, before_q, before_f);
         let corrected = new.fault;
         if corrected.number != 0 {
             return Advanced {
