@@ -7,6 +7,16 @@ ghost use Rattle.rule.specs.Channel.{channel};
 ghost use Rattle.rule.specs.Calls.{make_call, step_call, filter_call, run_call};
 ghost use Rattle.answers.specs.Stages.{leaves};
 
+// The answer's number, and by pointers its stage, place and count.
+fn told(answer: rule::Answer, stage: &mut u64, place: &mut u64, count: &mut u64) -> u64
+    ensures { record { number = result; stage = stage.new; place = place.new; count = count.new } ≡ answer }
+{
+    *stage = answer.stage;
+    *place = answer.place;
+    *count = answer.count;
+    answer.number
+}
+
 // A channel from depths, heights and velocities.
 #[unsafe(no_mangle)]
 pub extern "C" fn lent_make(
@@ -37,10 +47,7 @@ pub extern "C" fn lent_make(
     };
     let r = make::make(c, h, e, u, v, q, f, damping);
     *accepted = r.accepted;
-    *stage = r.answer.stage;
-    *place = r.answer.place;
-    *count = r.answer.count;
-    r.answer.number
+    told(r.answer, stage, place, count)
 }
 
 // One step, with s poured.
@@ -74,10 +81,7 @@ pub extern "C" fn lent_step(
     };
     let r = step::step(c, h, e, u, v, q, f, damping, s);
     *accepted = r.accepted;
-    *stage = r.answer.stage;
-    *place = r.answer.place;
-    *count = r.answer.count;
-    r.answer.number
+    told(r.answer, stage, place, count)
 }
 
 // One filter pass.
@@ -108,11 +112,12 @@ pub extern "C" fn lent_filter(
         accepted,
         wanted,
     };
-    let r = filter::filter(c, h, e, u, v, q, f, damping);
-    *stage = r.stage;
-    *place = r.place;
-    *count = r.count;
-    r.number
+    told(
+        filter::filter(c, h, e, u, v, q, f, damping),
+        stage,
+        place,
+        count,
+    )
 }
 
 // Steps with nothing poured, until complete or refused.
@@ -145,8 +150,5 @@ pub extern "C" fn lent_run(
     };
     let r = run::run(c, h, e, u, v, q, f, damping);
     *accepted = r.accepted;
-    *stage = r.answer.stage;
-    *place = r.answer.place;
-    *count = r.answer.count;
-    r.answer.number
+    told(r.answer, stage, place, count)
 }
