@@ -6,6 +6,7 @@ ghost use Rattle.rule.specs.Counted.{counted, left};
 ghost use Rattle.call.specs.Walk.{pours_of, call_of};
 
 // The calls that change a channel: a step with a row poured, a filter pass, at most so many steps of a run.
+// A closed set of three and no closure: which row is poured, what is called and what the rule says of it hang on the case alone.
 #[derive(Clone, Copy, Drop)]
 pub enum Call {
     Step,
@@ -17,11 +18,7 @@ pub enum Call {
 pub fn pours(call: Call) -> bool
     ensures { result ≡ pours_of call }
 {
-    match call {
-        Call::Step => true,
-        Call::Filter => false,
-        Call::Run(_) => false,
-    }
+    matches!(call, Call::Step)
 }
 
 // The call on lent rows.
