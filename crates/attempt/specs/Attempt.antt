@@ -6,8 +6,9 @@ use Rattle.std.specs.Int.{w64}
 use Rattle.rule.specs.declared.Answer.{Answer}
 use Rattle.rule.specs.Rows.{Row}
 use Rattle.rule.specs.Channel.{Channel, channel, pushed}
-use Rattle.rule.specs.Refusals.{Refusal, Outcome, refused, done, number, place, number_of, fault_of, ◌>>=◌, require}
-use Rattle.rule.specs.declared.Fault.{Fault}
+use Rattle.rule.specs.declared.Refusal.{Refusal}
+use Rattle.rule.specs.Refusals.{Outcome, refused, done, number, place, number_of, fault_of, ◌>>=◌, require}
+use Rattle.rule.specs.Refusals.{Fault}
 use Rattle.places.specs.Faults.{plain, told}
 use Rattle.rule.specs.Checks.{checked, is_complete, ready}
 use Rattle.rule.specs.Step as rule

@@ -3,7 +3,8 @@ use Rattle.std.specs.Prelude.{ℕ, refl, List, [], ◌∷◌}
 use Rattle.rule.specs.Rows.{Row}
 use Rattle.rule.specs.Ranges.{between}
 use Rattle.rule.specs.Channel.{Channel}
-use Rattle.rule.specs.Refusals.{number, shape, counts, depthValue, heightValue, velocityValue, reducedValue, fluxValue, accelerationValue, dampingValue, pouredValue, depth, timeStep, dominance}
+use Rattle.rule.specs.declared.Refusal.TheVariants.{Shape, CountValue, DepthValue, HeightValue, VelocityValue, ReducedValue, FluxValue, AccelerationValue, DampingValue, PouredValue, Depth, TimeStep, Dominance}
+use Rattle.rule.specs.Refusals.{number}
 use Rattle.rule.specs.Checks.{deep, timed, wet, pourable, allowed, checked}
 use Rattle.rule.specs.Make.{make_checked}
 use Rattle.checks.specs.Numbers.{Refuses, of_input, Input, Outside, outside_input, refuses_then, refuses_test, refuses_each, refuses_levels}
@@ -11,42 +12,42 @@ use Rattle.checks.specs.Numbers.{Refuses, of_input, Input, Outside, outside_inpu
 wet_met : (n X T : ℕ) (h e : Row) → Refuses Input (wet n X T h e)
 unfolding wet deep timed number of_input between
 wet_met n X T h e =
-    refuses_then Input _ _ (refuses_each Input _ _ depth (λ j. refl)) (λ _.
-    refuses_test Input _ timeStep _ refl
-    (refuses_each Input _ _ dominance (λ j. refl)))
+    refuses_then Input _ _ (refuses_each Input _ _ Depth (λ j. refl)) (λ _.
+    refuses_test Input _ TimeStep _ refl
+    (refuses_each Input _ _ Dominance (λ j. refl)))
 
 pours_met : (poured : List Row) → Refuses Input (pourable poured)
 unfolding pourable number of_input between
 pours_met [] = tt
-pours_met (s ∷ more) = refuses_then Input _ _ (refuses_each Input _ _ pouredValue (λ j. refl)) (λ _. pours_met more)
+pours_met (s ∷ more) = refuses_then Input _ _ (refuses_each Input _ _ PouredValue (λ j. refl)) (λ _. pours_met more)
 
 pub allowed_met : (c : Channel) (poured : List Row) → Refuses Input (allowed c poured)
 unfolding allowed number of_input between
 allowed_met c poured =
-    refuses_test Input _ counts _ refl
-    (refuses_then Input _ _ (refuses_each Input _ _ depthValue (λ j. refl)) (λ _.
-    refuses_then Input _ _ (refuses_each Input _ _ heightValue (λ j. refl)) (λ _.
-    refuses_then Input _ _ (refuses_each Input _ _ velocityValue (λ j. refl)) (λ _.
-    refuses_then Input _ _ (refuses_each Input _ _ reducedValue (λ j. refl)) (λ _.
-    refuses_then Input _ _ (refuses_levels Input _ _ _ fluxValue (λ j. refl)) (λ _.
-    refuses_then Input _ _ (refuses_levels Input _ _ _ accelerationValue (λ j. refl)) (λ _.
-    refuses_then Input _ _ (refuses_each Input _ _ dampingValue (λ j. refl)) (λ _.
+    refuses_test Input _ CountValue _ refl
+    (refuses_then Input _ _ (refuses_each Input _ _ DepthValue (λ j. refl)) (λ _.
+    refuses_then Input _ _ (refuses_each Input _ _ HeightValue (λ j. refl)) (λ _.
+    refuses_then Input _ _ (refuses_each Input _ _ VelocityValue (λ j. refl)) (λ _.
+    refuses_then Input _ _ (refuses_each Input _ _ ReducedValue (λ j. refl)) (λ _.
+    refuses_then Input _ _ (refuses_levels Input _ _ _ FluxValue (λ j. refl)) (λ _.
+    refuses_then Input _ _ (refuses_levels Input _ _ _ AccelerationValue (λ j. refl)) (λ _.
+    refuses_then Input _ _ (refuses_each Input _ _ DampingValue (λ j. refl)) (λ _.
     refuses_then Input _ _ (pours_met poured) (λ _.
     wet_met c.N c.X c.T c.h c.e)))))))))
 
 pub checked_met : (c : Channel) (poured : List Row) → Refuses Input (checked c poured)
 unfolding checked number of_input between
-checked_met c poured = refuses_test Input _ shape _ refl (allowed_met c poured)
+checked_met c poured = refuses_test Input _ Shape _ refl (allowed_met c poured)
 
 pub make_checked_met : (n X T wanted : ℕ) (h e u damping : Row) → Refuses Input (make_checked n X T wanted h e u damping)
 unfolding make_checked number of_input between
 make_checked_met n X T wanted h e u damping =
-    refuses_test Input _ shape _ refl
-    (refuses_test Input _ counts _ refl
-    (refuses_then Input _ _ (refuses_each Input _ _ depthValue (λ j. refl)) (λ _.
-    refuses_then Input _ _ (refuses_each Input _ _ heightValue (λ j. refl)) (λ _.
-    refuses_then Input _ _ (refuses_each Input _ _ velocityValue (λ j. refl)) (λ _.
-    refuses_then Input _ _ (refuses_each Input _ _ dampingValue (λ j. refl)) (λ _.
+    refuses_test Input _ Shape _ refl
+    (refuses_test Input _ CountValue _ refl
+    (refuses_then Input _ _ (refuses_each Input _ _ DepthValue (λ j. refl)) (λ _.
+    refuses_then Input _ _ (refuses_each Input _ _ HeightValue (λ j. refl)) (λ _.
+    refuses_then Input _ _ (refuses_each Input _ _ VelocityValue (λ j. refl)) (λ _.
+    refuses_then Input _ _ (refuses_each Input _ _ DampingValue (λ j. refl)) (λ _.
     wet_met n X T h e))))))
 
 -- so that each has stage 0

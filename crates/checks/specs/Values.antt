@@ -3,11 +3,13 @@ use Rattle.std.specs.Prelude.{◌≡◌, Bool, true, ◌&&◌, List, [], ◌∷�
 use Rattle.std.proofs.Math.Path.{refl, ap}
 use Rattle.std.proofs.Common.{sym, ◌∙◌}
 use Rattle.whole.specs.Tests.{and_yes, both}
-use Rattle.rule.specs.declared.Fault.{Fault}
+use Rattle.rule.specs.Refusals.{Fault}
 use Rattle.rule.specs.Rows.{Row, all, lowest}
 use Rattle.rule.specs.Ranges.{within, depth_allowed, most_height, most_velocity, most_reduced, most_flux, most_acceleration, damping_allowed, most_poured}
 use Rattle.rule.specs.Channel.{Channel, level_of}
-use Rattle.rule.specs.Refusals.{Refusal, Outcome, done, ◌>>=◌, number_of, fault_of, depthValue, heightValue, velocityValue, reducedValue, fluxValue, accelerationValue, dampingValue, pouredValue}
+use Rattle.rule.specs.declared.Refusal.{Refusal}
+use Rattle.rule.specs.declared.Refusal.TheVariants.{DepthValue, HeightValue, VelocityValue, ReducedValue, FluxValue, AccelerationValue, DampingValue, PouredValue}
+use Rattle.rule.specs.Refusals.{Outcome, done, ◌>>=◌, number_of, fault_of}
 use Rattle.rule.specs.Checks.{small, each, each_level, pourable}
 use Rattle.places.specs.Faults.{or_fault, each_then, depth_value, height_value, velocity_value, reduced_value, flux_value, acceleration_value}
 use Rattle.values.specs.Levels.{or_level, in_turn, level_then, level_all, levels_all}
@@ -17,26 +19,26 @@ use Rattle.checks.specs.Facts.{values_allowed, levels_allowed}
 -- of what a channel is made from
 unfoldable pub given : Row → Row → Row → Row → Outcome (Unit {0})
 given h e u damping =
-    each depth_allowed h depthValue >>= λ _.
-    each (within most_height) e heightValue >>= λ _.
-    each (within most_velocity) u velocityValue >>= λ _.
-    each damping_allowed damping dampingValue
+    each depth_allowed h DepthValue >>= λ _.
+    each (within most_height) e HeightValue >>= λ _.
+    each (within most_velocity) u VelocityValue >>= λ _.
+    each damping_allowed damping DampingValue
 
 module _ (h e u damping : Row) where
-  pub given_fault : or_fault 31 (lowest depth_allowed h) (or_fault 32 (lowest (within most_height) e) (or_fault 33 (lowest (within most_velocity) u) (fault_of (each damping_allowed damping dampingValue)))) ≡ fault_of (given h e u damping)
+  pub given_fault : or_fault 31 (lowest depth_allowed h) (or_fault 32 (lowest (within most_height) e) (or_fault 33 (lowest (within most_velocity) u) (fault_of (each damping_allowed damping DampingValue)))) ≡ fault_of (given h e u damping)
   unfolding given
   given_fault =
-      each_then depth_allowed h 31 depthValue depth_value _ _
-      (each_then (within most_height) e 32 heightValue height_value _ _
-      (each_then (within most_velocity) u 33 velocityValue velocity_value _ _
+      each_then depth_allowed h 31 DepthValue depth_value _ _
+      (each_then (within most_height) e 32 HeightValue height_value _ _
+      (each_then (within most_velocity) u 33 VelocityValue velocity_value _ _
       refl))
 
   pub given_passed : number_of (given h e u damping) ≡ 0 → (values_allowed h e u ≡ true) × (all damping_allowed damping ≡ true)
   unfolding given small each
   given_passed z =
-      let a = passed_each depth_allowed h depthValue _ z in
-      let b = passed_each (within most_height) e heightValue _ a.1 in
-      let c = passed_each (within most_velocity) u velocityValue _ b.1 in
+      let a = passed_each depth_allowed h DepthValue _ z in
+      let b = passed_each (within most_height) e HeightValue _ a.1 in
+      let c = passed_each (within most_velocity) u VelocityValue _ b.1 in
       (and_yes _ _ (and_yes _ _ a.0 b.0) c.0, passed_last (all damping_allowed damping) _ c.1)
 
   pub given_done : values_allowed h e u ≡ true → all damping_allowed damping ≡ true → given h e u damping ≡ done tt
@@ -44,10 +46,10 @@ module _ (h e u damping : Row) where
   given_done z d =
       let p = both (all depth_allowed h && small most_height e) (small most_velocity u) z in
       let q = both (all depth_allowed h) (small most_height e) p.0 in
-      after_done (each depth_allowed h depthValue) tt _ (each_done depth_allowed h depthValue q.0)
-      ∙ after_done (each (within most_height) e heightValue) tt _ (each_done (within most_height) e heightValue q.1)
-      ∙ after_done (each (within most_velocity) u velocityValue) tt _ (each_done (within most_velocity) u velocityValue p.1)
-      ∙ each_done damping_allowed damping dampingValue d
+      after_done (each depth_allowed h DepthValue) tt _ (each_done depth_allowed h DepthValue q.0)
+      ∙ after_done (each (within most_height) e HeightValue) tt _ (each_done (within most_height) e HeightValue q.1)
+      ∙ after_done (each (within most_velocity) u VelocityValue) tt _ (each_done (within most_velocity) u VelocityValue p.1)
+      ∙ each_done damping_allowed damping DampingValue d
 
 -- the levels of one row: every level passes exactly where every entry does
 module _ {A : Type 0} (m : ℕ) (p : A → Bool) (levels : List A) (r : ℕ → Refusal) where
@@ -70,7 +72,7 @@ pub pours_passed : (poured : List Row) → number_of (pourable poured) ≡ 0 →
 unfolding pourable all small
 pours_passed [] z = refl
 pours_passed (s ∷ more) z =
-    let p = passed_each (within most_poured) s pouredValue (λ _. pourable more) z in
+    let p = passed_each (within most_poured) s PouredValue (λ _. pourable more) z in
     and_yes _ _ p.0 (pours_passed more p.1)
 
 pub pours_done : (poured : List Row) → all (small most_poured) poured ≡ true → pourable poured ≡ done tt
@@ -78,19 +80,19 @@ unfolding pourable all small
 pours_done [] e = refl
 pours_done (s ∷ more) e =
     let p = both (small most_poured s) (all (small most_poured) more) e in
-    after_done (each (within most_poured) s pouredValue) tt (λ _. pourable more) (each_done (within most_poured) s pouredValue p.0) ∙ pours_done more p.1
+    after_done (each (within most_poured) s PouredValue) tt (λ _. pourable more) (each_done (within most_poured) s PouredValue p.0) ∙ pours_done more p.1
 
 -- of a channel, and of the rows that a call pours
 module _ (c : Channel) (poured : List Row) where
   unfoldable pub valued : Outcome (Unit {0})
   valued =
-      each depth_allowed c.h depthValue >>= λ _.
-      each (within most_height) c.e heightValue >>= λ _.
-      each (within most_velocity) c.u velocityValue >>= λ _.
-      each (within most_reduced) c.v reducedValue >>= λ _.
-      each_level (c.N - 1) (within most_flux) c.Q fluxValue >>= λ _.
-      each_level c.N (within most_acceleration) c.F accelerationValue >>= λ _.
-      each damping_allowed c.damping dampingValue >>= λ _.
+      each depth_allowed c.h DepthValue >>= λ _.
+      each (within most_height) c.e HeightValue >>= λ _.
+      each (within most_velocity) c.u VelocityValue >>= λ _.
+      each (within most_reduced) c.v ReducedValue >>= λ _.
+      each_level (c.N - 1) (within most_flux) c.Q FluxValue >>= λ _.
+      each_level c.N (within most_acceleration) c.F AccelerationValue >>= λ _.
+      each damping_allowed c.damping DampingValue >>= λ _.
       pourable poured
 
   -- the faults, as the code finds them
@@ -102,18 +104,18 @@ module _ (c : Channel) (poured : List Row) where
       (or_fault 34 (lowest (within most_reduced) c.v)
       (or_level 35 (c.N - 1) (within most_flux) c.Q
       (or_level 36 c.N (within most_acceleration) c.F
-      (first_of (fault_of (each damping_allowed c.damping dampingValue)) (fault_of (pourable poured))))))))
+      (first_of (fault_of (each damping_allowed c.damping DampingValue)) (fault_of (pourable poured))))))))
 
   pub valued_fault : found ≡ fault_of valued
   unfolding valued
   valued_fault =
-      each_then depth_allowed c.h 31 depthValue depth_value _ _
-      (each_then (within most_height) c.e 32 heightValue height_value _ _
-      (each_then (within most_velocity) c.u 33 velocityValue velocity_value _ _
-      (each_then (within most_reduced) c.v 34 reducedValue reduced_value _ _
-      (level_then (c.N - 1) (within most_flux) c.Q fluxValue _ 35 flux_value _
-      (level_then c.N (within most_acceleration) c.F accelerationValue _ 36 acceleration_value _
-      (first_is (each damping_allowed c.damping dampingValue) (λ _. pourable poured) _ _ refl refl))))))
+      each_then depth_allowed c.h 31 DepthValue depth_value _ _
+      (each_then (within most_height) c.e 32 HeightValue height_value _ _
+      (each_then (within most_velocity) c.u 33 VelocityValue velocity_value _ _
+      (each_then (within most_reduced) c.v 34 ReducedValue reduced_value _ _
+      (level_then (c.N - 1) (within most_flux) c.Q FluxValue _ 35 flux_value _
+      (level_then c.N (within most_acceleration) c.F AccelerationValue _ 36 acceleration_value _
+      (first_is (each damping_allowed c.damping DampingValue) (λ _. pourable poured) _ _ refl refl))))))
 
   abbrev pub values_pass : Bool
   values_pass = values_allowed c.h c.e c.u && levels_allowed c.v c.Q c.F && all damping_allowed c.damping && all (small most_poured) poured
@@ -121,13 +123,13 @@ module _ (c : Channel) (poured : List Row) where
   pub valued_passed : length c.Q ≡ 3 * (c.N - 1) → length c.F ≡ 3 * c.N → number_of valued ≡ 0 → values_pass ≡ true
   unfolding valued small
   valued_passed Q_long F_long z =
-      let h = passed_each depth_allowed c.h depthValue _ z in
-      let e = passed_each (within most_height) c.e heightValue _ h.1 in
-      let u = passed_each (within most_velocity) c.u velocityValue _ e.1 in
-      let v = passed_each (within most_reduced) c.v reducedValue _ u.1 in
-      let Q = levels_passed (c.N - 1) (within most_flux) c.Q fluxValue _ Q_long v.1 in
-      let F = levels_passed c.N (within most_acceleration) c.F accelerationValue _ F_long Q.1 in
-      let damping = passed_each damping_allowed c.damping dampingValue _ F.1 in
+      let h = passed_each depth_allowed c.h DepthValue _ z in
+      let e = passed_each (within most_height) c.e HeightValue _ h.1 in
+      let u = passed_each (within most_velocity) c.u VelocityValue _ e.1 in
+      let v = passed_each (within most_reduced) c.v ReducedValue _ u.1 in
+      let Q = levels_passed (c.N - 1) (within most_flux) c.Q FluxValue _ Q_long v.1 in
+      let F = levels_passed c.N (within most_acceleration) c.F AccelerationValue _ F_long Q.1 in
+      let damping = passed_each damping_allowed c.damping DampingValue _ F.1 in
       and_yes _ _
       (and_yes _ _ (and_yes _ _ (and_yes _ _ (and_yes _ _ h.0 e.0) u.0) (and_yes _ _ (and_yes _ _ v.0 Q.0) F.0)) damping.0)
       (pours_passed poured damping.1)
@@ -143,11 +145,11 @@ module _ (c : Channel) (poured : List Row) where
       let d = both (small most_reduced c.v && small most_flux c.Q) (small most_acceleration c.F) q.1 in
       let f = both (small most_reduced c.v) (small most_flux c.Q) d.0 in
       ap number_of
-      (after_done (each depth_allowed c.h depthValue) tt _ (each_done depth_allowed c.h depthValue b.0)
-      ∙ after_done (each (within most_height) c.e heightValue) tt _ (each_done (within most_height) c.e heightValue b.1)
-      ∙ after_done (each (within most_velocity) c.u velocityValue) tt _ (each_done (within most_velocity) c.u velocityValue a.1)
-      ∙ after_done (each (within most_reduced) c.v reducedValue) tt _ (each_done (within most_reduced) c.v reducedValue f.0)
-      ∙ after_done (each_level (c.N - 1) (within most_flux) c.Q fluxValue) tt _ (levels_done (c.N - 1) (within most_flux) c.Q fluxValue f.1)
-      ∙ after_done (each_level c.N (within most_acceleration) c.F accelerationValue) tt _ (levels_done c.N (within most_acceleration) c.F accelerationValue d.1)
-      ∙ after_done (each damping_allowed c.damping dampingValue) tt _ (each_done damping_allowed c.damping dampingValue damping.1)
+      (after_done (each depth_allowed c.h DepthValue) tt _ (each_done depth_allowed c.h DepthValue b.0)
+      ∙ after_done (each (within most_height) c.e HeightValue) tt _ (each_done (within most_height) c.e HeightValue b.1)
+      ∙ after_done (each (within most_velocity) c.u VelocityValue) tt _ (each_done (within most_velocity) c.u VelocityValue a.1)
+      ∙ after_done (each (within most_reduced) c.v ReducedValue) tt _ (each_done (within most_reduced) c.v ReducedValue f.0)
+      ∙ after_done (each_level (c.N - 1) (within most_flux) c.Q FluxValue) tt _ (levels_done (c.N - 1) (within most_flux) c.Q FluxValue f.1)
+      ∙ after_done (each_level c.N (within most_acceleration) c.F AccelerationValue) tt _ (levels_done c.N (within most_acceleration) c.F AccelerationValue d.1)
+      ∙ after_done (each damping_allowed c.damping DampingValue) tt _ (each_done damping_allowed c.damping DampingValue damping.1)
       ∙ pours_done poured p.1)

@@ -4,7 +4,8 @@ use Rattle.std.specs.Int.Signed.{lt_z, le_z}
 use Rattle.whole.specs.Row.{tab}
 use Rattle.rule.specs.Rows.{Row, cell, map, all, lowest}
 use Rattle.rule.specs.Ranges.{between}
-use Rattle.rule.specs.Refusals.{Outcome, done, ◌>>=◌, require, bufferLength, gaugesLength, gaugesValue, ninthGauge, offChannel, gaugeFull}
+use Rattle.rule.specs.declared.Refusal.TheVariants.{BufferLength, GaugesLength, GaugesValue, NinthGauge, OffChannel, GaugeFull}
+use Rattle.rule.specs.Refusals.{Outcome, done, ◌>>=◌, require}
 use Rattle.rule.specs.Bytes.{row_bytes, row_at}
 use Rattle.gauge.specs.declared.Gauge.{Gauge}
 use Rattle.gauge.specs.Gauge.{gauge_of, waves, grown, most_fed, is_empty, right}
@@ -57,8 +58,8 @@ state_of gs = row_bytes 8 (flat (map numbers gs))
 -- 12, then 14
 unfoldable pub formed : List ℕ → Outcome (Unit {0})
 formed s =
-    require (eqb (length s) state_length) gaugesLength >>= λ _.
-    require (all right (gauges_of s)) gaugesValue
+    require (eqb (length s) state_length) GaugesLength >>= λ _.
+    require (all right (gauges_of s)) GaugesValue
 
 -- the lowest place, counted from 1, without a gauge; 0 where every place has one
 unfoldable pub taken : Gauge → Bool
@@ -75,8 +76,8 @@ with_gauge row k g = take (8 * k) row ++ (numbers g ++ drop (8 * k + 8) row)
 unfoldable pub placeable : ℕ → ℕ → List ℕ → Outcome (Unit {0})
 placeable n j s =
     formed s >>= λ _.
-    require (not (eqb (free s) 0)) ninthGauge >>= λ _.
-    require (between 1 n j) offChannel
+    require (not (eqb (free s) 0)) NinthGauge >>= λ _.
+    require (between 1 n j) OffChannel
 
 unfoldable pub placed : ℕ → ℕ → List ℕ → Outcome (List ℕ)
 placed n j s =
@@ -98,8 +99,8 @@ fed_from e g = cond (is_empty g) g (grown g (cell e (nat_abs g.cell - 1)))
 unfoldable pub feedable : ℕ → List ℕ → Outcome (Unit {0})
 feedable n s =
     formed s >>= λ _.
-    require (all (stands_in n) (gauges_of s)) offChannel >>= λ _.
-    require (all has_room (gauges_of s)) gaugeFull
+    require (all (stands_in n) (gauges_of s)) OffChannel >>= λ _.
+    require (all has_room (gauges_of s)) GaugeFull
 
 unfoldable pub fed : Row → List ℕ → Outcome (List ℕ)
 fed e s =
@@ -117,7 +118,7 @@ read_numbers = 48
 unfoldable pub readable : List ℕ → ℕ → Outcome (Unit {0})
 readable s room =
     formed s >>= λ _.
-    require (eqb room read_numbers) bufferLength
+    require (eqb room read_numbers) BufferLength
 
 unfoldable pub readings : List ℕ → ℕ → Outcome Row
 readings s room =

@@ -6,7 +6,7 @@ use Rattle.std.proofs.Math.Path.{ap}
 use borrow.Author.Tests.{not-true, eqb-false, leb-true}
 use Rattle.whole.specs.Row.{tab, length_tab}
 use Rattle.whole.specs.Tests.{both}
-use Rattle.rule.specs.declared.Fault.{Fault}
+use Rattle.rule.specs.Refusals.{Fault}
 use Rattle.rule.specs.Rows.{Row, map}
 use Rattle.rule.specs.Ranges.{between}
 use Rattle.rule.specs.Refusals.{number_of, fault_of}

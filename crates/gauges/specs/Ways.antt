@@ -4,7 +4,7 @@ use Rattle.std.proofs.Math.Path.{sym, ap}
 use Rattle.std.proofs.Common.{◌∙◌, arith, lit≤}
 use Rattle.std.proofs.Math.Bool.{false}
 use mathlib.Core.List.{List, []}
-use Rattle.rule.specs.declared.Fault.{Fault}
+use Rattle.rule.specs.Refusals.{Fault}
 use Rattle.rule.specs.Rows.{Row}
 use Rattle.whole.specs.Row.{Within, within_more}
 use Rattle.rule.specs.Ranges.{most_cells, most_height}

@@ -7,7 +7,9 @@ use Rattle.std.proofs.Math.IntN.{+ℤ_idr}
 use Rattle.rule.specs.declared.Answer.{Answer}
 use Rattle.rule.specs.Rows.{Row, sum}
 use Rattle.rule.specs.Channel.{Channel}
-use Rattle.rule.specs.Refusals.{Refusal, Outcome, refused, done, number_of, shape, bufferLength}
+use Rattle.rule.specs.declared.Refusal.{Refusal}
+use Rattle.rule.specs.declared.Refusal.TheVariants.{Shape, BufferLength}
+use Rattle.rule.specs.Refusals.{Outcome, refused, done, number_of}
 use Rattle.rule.specs.Checks.{checked}
 use Rattle.rule.specs.Make.{make_checked}
 use Rattle.rule.specs.Layout.{length_of}
@@ -127,9 +129,9 @@ unfolding make_file
 make_file_taken n X T wanted h e u damping buffer =
     of_made buffer _
     (λ c m.
-    let a₁ = came_by (holds h n && holds e n && holds u n && holds damping n) shape _ c m in
+    let a₁ = came_by (holds h n && holds e n && holds u n && holds damping n) Shape _ c m in
     let a₂ = came (make_checked n X T wanted (row_in h) (row_in e) (row_in u) (row_in damping)) _ c a₁.1 in
-    let a₃ = came_by (eqb (length buffer) (length_of edition n)) bufferLength _ c a₂.rest in
+    let a₃ = came_by (eqb (length buffer) (length_of edition n)) BufferLength _ c a₂.rest in
     make_passes n X T wanted (row_in h) (row_in e) (row_in u) (row_in damping) c a₃.1)
 
 of_checked : (s : List ℕ) (m : Outcome Channel) → (called s (λ _. 0) (λ _. s) m).answer.number ≡ 0 → number_of m ≡ 0

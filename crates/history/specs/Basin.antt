@@ -4,7 +4,8 @@ use Rattle.std.specs.Prelude.{◌≡◌, refl, List, [], ◌∷◌}
 use Rattle.std.proofs.Common.{sym, ◌∙◌, ap}
 use Rattle.rule.specs.Rows.{Row}
 use Rattle.rule.specs.Channel.{Channel, moved, filled}
-use Rattle.rule.specs.Refusals.{Outcome, refused, done, shape}
+use Rattle.rule.specs.declared.Refusal.TheVariants.{Shape}
+use Rattle.rule.specs.Refusals.{Outcome, refused, done}
 use Rattle.rule.specs.Acceleration.{accelerations}
 use Rattle.rule.specs.Make.{reduced_velocities, make_checked, make}
 use Rattle.rule.specs.Step.{Stepped, accept, step}
@@ -76,4 +77,4 @@ by_make c (done d) h = h d refl
 
 pub make_like : (c : Channel) → made_like c (make_call c).left ≡ (make_call c).left
 unfolding make_call
-make_like c = by_make c _ (λ d e. made_of c d (came_by (fit c c.N) shape _ d e).1)
+make_like c = by_make c _ (λ d e. made_of c d (came_by (fit c c.N) Shape _ d e).1)

@@ -6,7 +6,8 @@ use native.Mathlib.Omega.{arith}
 use borrow.Author.Tests.{eq-eqb, le-ltb}
 use Rattle.rule.specs.Rows.{Row}
 use Rattle.rule.specs.Channel.{Channel}
-use Rattle.rule.specs.Refusals.{refused, number_of, number, place, complete, require, ◌>>=◌}
+use Rattle.rule.specs.declared.Refusal.TheVariants.{Complete}
+use Rattle.rule.specs.Refusals.{refused, number_of, number, place, require, ◌>>=◌}
 use Rattle.rule.specs.Checks.{checked, is_complete, ready}
 use Rattle.rule.specs.Step.{step}
 use Rattle.rule.specs.Filter.{filter}
@@ -18,7 +19,7 @@ use Rattle.checks.specs.Numbers.{done_of}
 use Rattle.run_for.specs.Runs.{run_is}
 
 module _ (c : Channel) (e : c.accepted ≡ c.wanted) where
-  not_ready : (rows : List Row) → number_of (checked c rows) ≡ 0 → ready c rows ≡ refused complete 0
+  not_ready : (rows : List Row) → number_of (checked c rows) ≡ 0 → ready c rows ≡ refused Complete 0
   unfolding ready ◌>>=◌ require is_complete
   not_ready rows z = rw (done_of (checked c rows) z, eq-eqb c.accepted c.wanted e)
 

@@ -3,7 +3,8 @@ use Rattle.std.specs.Prelude.{ℕ, ◌≡◌, refl, Bool, true, List, [], ◌∷
 use Rattle.std.proofs.Common.{subst, sym}
 use Rattle.rule.specs.Rows.{Row}
 use Rattle.rule.specs.Channel.{Channel}
-use Rattle.rule.specs.Refusals.{number, Outcome, refused, done, number_of, shape, fileLength, fileEdition, fileOffsets}
+use Rattle.rule.specs.declared.Refusal.TheVariants.{Shape, FileLength, FileEdition, FileOffsets}
+use Rattle.rule.specs.Refusals.{number, Outcome, refused, done, number_of}
 use Rattle.rule.specs.Checks.{checked}
 use Rattle.rule.specs.File.{channel_of, read_with}
 use Rattle.rule.specs.Calls.{Called, read, row_in, holds, on_file, step_call, filter_call, run_for_call, step_file, filter_file, run_for_file}
@@ -26,11 +27,11 @@ paced_file s z =
 reader_timely : (fits : ℕ → Bool) (poured : List Row) (s : List ℕ) → Paced (channel_of s) → Refuses (read_with fits poured s)
 unfolding read_with number
 reader_timely fits poured s p =
-    meets_test InTime _ fileLength _ refl
-    (meets_test InTime _ fileEdition _ refl
-    (meets_test InTime _ shape _ refl
-    (meets_test InTime _ fileLength _ refl
-    (meets_test InTime _ fileOffsets _ refl
+    meets_test InTime _ FileLength _ refl
+    (meets_test InTime _ FileEdition _ refl
+    (meets_test InTime _ Shape _ refl
+    (meets_test InTime _ FileLength _ refl
+    (meets_test InTime _ FileOffsets _ refl
     (meets_then InTime _ _ (allowed_timely (channel_of s) p poured) (λ _. tt))))))
 
 module _ (f : Channel → Called Channel) (timely : (c : Channel) → number_of (checked c []) ≡ 0 → Timely (f c).answer.number) (fits : ℕ → Bool) (poured : List Row) (s : List ℕ) where

@@ -3,7 +3,8 @@
 use Rattle.std.specs.Prelude.{ℕ, ◌≡◌, refl, List, []}
 use Rattle.std.proofs.Common.{sym, ◌∙◌, ap}
 use Rattle.rule.specs.Channel.{Channel}
-use Rattle.rule.specs.Refusals.{Outcome, refused, done, number_of, shape}
+use Rattle.rule.specs.declared.Refusal.TheVariants.{Shape}
+use Rattle.rule.specs.Refusals.{Outcome, refused, done, number_of}
 use Rattle.rule.specs.Checks.{checked}
 use Rattle.rule.specs.File.{file_of, read_with}
 use Rattle.rule.specs.Calls.{Called, called, plainly, fit, make_call, read_call}
@@ -28,7 +29,7 @@ Passes d = number_of (checked d []) ≡ 0
 make_call_passes : (c : Channel) → (make_call c).answer.number ≡ 0 → number_of (checked (make_call c).left []) ≡ 0
 unfolding make_call
 make_call_passes c =
-    left_of_lem Passes c _ (λ d e. make_passes c.N c.X c.T c.wanted c.h c.e c.u c.damping d (came_by (fit c c.N) shape _ d e).1)
+    left_of_lem Passes c _ (λ d e. make_passes c.N c.X c.T c.wanted c.h c.e c.u c.damping d (came_by (fit c c.N) Shape _ d e).1)
 
 read_call_passes : (c : Channel) (s : List ℕ) → (read_call c s).answer.number ≡ 0 → number_of (checked (read_call c s).left []) ≡ 0
 unfolding read_call

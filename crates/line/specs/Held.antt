@@ -5,7 +5,7 @@ use Rattle.std.proofs.Math.Path.{refl, sym, ap, subst}
 use Rattle.std.proofs.Math.Bool.{false}
 use mathlib.Core.List.{List, []}
 use Rattle.std.proofs.Math.ListN.{length}
-use Rattle.rule.specs.declared.Fault.{Fault}
+use Rattle.rule.specs.Refusals.{Fault}
 use Rattle.rule.specs.Ranges.{most_cells, most_height}
 use Rattle.whole.specs.Row.{padded, Within}
 use Rattle.rule.specs.Rows.{Row}

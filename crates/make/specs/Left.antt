@@ -7,7 +7,8 @@ use Rattle.rule.specs.Rounded.{rounded_float}
 use Rattle.rule.specs.Rows.{Row}
 use Rattle.rule.specs.Ranges.{cells_allowed}
 use Rattle.rule.specs.Channel.{Channel, moved, channel, filled, renewed}
-use Rattle.rule.specs.Refusals.{shape, speed, flux, number, Outcome, refused, done, fault_of, ◌>>=◌, require}
+use Rattle.rule.specs.declared.Refusal.TheVariants.{Shape, Speed, Flux}
+use Rattle.rule.specs.Refusals.{number, Outcome, refused, done, fault_of, ◌>>=◌, require}
 use Rattle.rule.specs.Flux.{fluxes}
 use Rattle.rule.specs.Acceleration.{accelerations}
 use Rattle.rule.specs.Make.{make_checked, make, reduced_velocities}
@@ -29,18 +30,18 @@ make_outside : (n X T wanted : ℕ) (h e u damping : Row) → Outside (make n X 
 unfolding make reduced_velocities fluxes number
 make_outside n X T wanted h e u damping =
     refuses_then Early (make_checked n X T wanted h e u damping) _ (make_checked_outside n X T wanted h e u damping)
-    (λ _. refuses_then Early (reduced_velocities n X h u) _ (refuses_test Early _ speed _ refl tt)
-    (λ v. refuses_then Early (fluxes n X h e u) _ (refuses_test Early _ flux _ refl tt) (λ Q. tt)))
+    (λ _. refuses_then Early (reduced_velocities n X h u) _ (refuses_test Early _ Speed _ refl tt)
+    (λ v. refuses_then Early (fluxes n X h e u) _ (refuses_test Early _ Flux _ refl tt) (λ Q. tt)))
 
-fits : (lent : Channel) (b : Bool) (m : Outcome Channel) → b ≡ true → plainly lent (require b shape >>= λ _. m) ≡ plainly lent m
+fits : (lent : Channel) (b : Bool) (m : Outcome Channel) → b ≡ true → plainly lent (require b Shape >>= λ _. m) ≡ plainly lent m
 unfolding require ◌>>=◌
 fits lent b m z = rw z
 
-make_unfit : (n X T wanted : ℕ) (h e u damping : Row) → cells_allowed n ≡ false → make n X T wanted h e u damping ≡ refused shape 0
+make_unfit : (n X T wanted : ℕ) (h e u damping : Row) → cells_allowed n ≡ false → make n X T wanted h e u damping ≡ refused Shape 0
 unfolding make make_checked require ◌>>=◌
 make_unfit n X T wanted h e u damping z = rw z
 
-went : (b : Bool) (new row : Row) → (require b speed >>= λ _. done row) ≡ done new → new ≡ row
+went : (b : Bool) (new row : Row) → (require b Speed >>= λ _. done row) ≡ done new → new ≡ row
 unfolding require ◌>>=◌
 went true new row p = cc p
 went false new row p = let y : ◌≡◌ {A = ℕ} 0 1 = cc p in absurd (omega arith)
@@ -54,7 +55,7 @@ module _ (lent : Channel) where
   abbrev made : Outcome Channel
   made = make lent.N lent.X lent.T lent.wanted lent.h lent.e lent.u lent.damping
 
-  call_is : plainly lent (require (fit lent lent.N) shape >>= λ _. made) ≡ make_call lent
+  call_is : plainly lent (require (fit lent lent.N) Shape >>= λ _. made) ≡ make_call lent
   unfolding make_call
   call_is = refl
 

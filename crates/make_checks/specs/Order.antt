@@ -2,11 +2,12 @@
 use Rattle.std.specs.Prelude.{ℕ, ◌≡◌, refl, Bool, true, false, ◌&&◌, List, eqb, length}
 use Rattle.std.proofs.Common.{sym, ap}
 use borrow.Author.Tests.{ne_eqb, eq-eqb, eqb-true}
-use Rattle.rule.specs.declared.Fault.{Fault}
+use Rattle.rule.specs.Refusals.{Fault}
 use Rattle.rule.specs.Rows.{Row}
 use Rattle.rule.specs.Ranges.{cells_allowed}
 use Rattle.rule.specs.Channel.{Channel}
-use Rattle.rule.specs.Refusals.{Outcome, number, place, number_of, place_of, fault_of, ◌>>=◌, require, bufferLength}
+use Rattle.rule.specs.declared.Refusal.TheVariants.{BufferLength}
+use Rattle.rule.specs.Refusals.{Outcome, number, place, number_of, place_of, fault_of, ◌>>=◌, require}
 use Rattle.rule.specs.Make.{make_checked, make}
 use Rattle.rule.specs.Layout.{length_of}
 use Rattle.rule.specs.File.{edition, file_of}
@@ -19,7 +20,7 @@ use Rattle.answers.specs.Stages.{early, refused_first, unfit_call, leaves_bytes}
 
 -- 15: a buffer of `room` bytes, for n cells
 unfoldable pub buffer_checked : ℕ → ℕ → Outcome (Unit {0})
-buffer_checked n room = require (eqb room (length_of edition n)) bufferLength
+buffer_checked n room = require (eqb room (length_of edition n)) BufferLength
 
 -- the input checks, then 15
 unfoldable pub tested : ℕ → ℕ → ℕ → ℕ → Row → Row → Row → Row → ℕ → Outcome (Unit {0})
@@ -51,14 +52,14 @@ module _ (n X T wanted : ℕ) (h e u damping : Row) where
   unfolding tested buffer_checked number
   tested_outside room =
       refuses_then Early (make_checked n X T wanted h e u damping) _ (make_checked_outside n X T wanted h e u damping)
-      (λ _. refuses_last Early (eqb room (length_of edition n)) bufferLength refl)
+      (λ _. refuses_last Early (eqb room (length_of edition n)) BufferLength refl)
 
   -- what the tests let pass
   pub passed_both : (room : ℕ) → number_of (tested n X T wanted h e u damping room) ≡ 0 → Makeable n X T wanted h e u damping × (room ≡ length_of edition n)
   unfolding tested buffer_checked
   passed_both room z =
       let p = both_done (make_checked n X T wanted h e u damping) (λ _. buffer_checked n room) z in
-      (makeable_of n X T wanted h e u damping p.0, eqb-true room (length_of edition n) (passed_last (eqb room (length_of edition n)) bufferLength p.1))
+      (makeable_of n X T wanted h e u damping p.0, eqb-true room (length_of edition n) (passed_last (eqb room (length_of edition n)) BufferLength p.1))
 
   module _ (s : List ℕ) where
     -- a test refuses

@@ -10,7 +10,8 @@ use Rattle.rule.specs.Rounded.{rounded_float}
 use Rattle.rule.specs.Rows.{Row, cell, map, all}
 use Rattle.rule.specs.Ranges.{most_reduced, most_cells}
 use Rattle.rule.specs.Floats.{whole, ◌⊕◌, ◌⊗◌, ◌⊘◌, within_float}
-use Rattle.rule.specs.Refusals.{Outcome, number, number_of, require, speed}
+use Rattle.rule.specs.declared.Refusal.TheVariants.{Speed}
+use Rattle.rule.specs.Refusals.{Outcome, number, number_of, require}
 use Rattle.rule.specs.declared.Coefficients.{Coefficients}
 use Rattle.rule.specs.Coefficients.{scale, coefficients}
 use Rattle.rule.specs.Make.{reduced_velocity, reduced_velocities}
@@ -64,7 +65,7 @@ module _ (n X : ℕ) (h u : Row) where
   unfolding velocities_of reduced_velocities require number_of number
   refused_7 j l e =
       let none : all (within_float most_reduced) (tab n (each n X h u)) ≡ false = all_fails (within_float most_reduced) (each n X h u) n j l e in
-      ap of (refuses n (all (within_float most_reduced) (tab n (each n X h u))) speed 7 _ (rw none) (λ z. omega arith))
+      ap of (refuses n (all (within_float most_reduced) (tab n (each n X h u))) Speed 7 _ (rw none) (λ z. omega arith))
 
   module _ {j : ℕ} {before row : List Float} (m : n ≤ most_cells) (p : length before ≡ most_cells) (f : Filled (each n X h u) before j row) (a : j ≤ n) (b : n ≤ j) (i : all (within_float most_reduced) (tab j (each n X h u)) ≡ true) where
     filled : floats n row ≡ tab n (each n X h u)
@@ -80,4 +81,4 @@ module _ (n X : ℕ) (h u : Row) where
     unfolding velocities_of reduced_velocities
     made =
         ap (λ vs. record { number = 0; v = padded n (map rounded_float vs) }) filled
-        ∙ ap of (sym (done_is n (map rounded_float (tab n (each n X h u)))) ∙ sym (passes n (all (within_float most_reduced) (tab n (each n X h u))) speed _ in_range))
+        ∙ ap of (sym (done_is n (map rounded_float (tab n (each n X h u)))) ∙ sym (passes n (all (within_float most_reduced) (tab n (each n X h u))) Speed _ in_range))

@@ -3,11 +3,13 @@ use Rattle.std.specs.Prelude.{ℕ, ◌≤◌, ◌≡◌, Bool, true, false, not,
 use Rattle.std.proofs.Math.Path.{refl, sym}
 use Rattle.std.proofs.Common.{◌∙◌, ap, eqb-true, ltb-false}
 use Rattle.std.proofs.lemmas.Bool.{not-true}
-use Rattle.rule.specs.declared.Fault.{Fault}
+use Rattle.rule.specs.Refusals.{Fault}
 use Rattle.rule.specs.Rows.{Row, same}
 use Rattle.rule.specs.Ranges.{least_cells, most_cells, cells_allowed}
 use Rattle.rule.specs.Channel.{Channel}
-use Rattle.rule.specs.Refusals.{Refusal, Outcome, done, number_of, fault_of, number, ◌>>=◌, require, shape, fileLength, fileEdition, fileOffsets}
+use Rattle.rule.specs.declared.Refusal.{Refusal}
+use Rattle.rule.specs.declared.Refusal.TheVariants.{Shape, FileLength, FileEdition, FileOffsets}
+use Rattle.rule.specs.Refusals.{Outcome, done, number_of, fault_of, number, ◌>>=◌, require}
 use Rattle.rule.specs.Checks.{long, allowed, checked, shaped}
 use Rattle.rule.specs.Layout.{offsets, length_of}
 use Rattle.rule.specs.File.{edition, least_length, count_of, offsets_in, channel_of, read_with}
@@ -23,15 +25,15 @@ use Rattle.opened.specs.Held.{shaped_held}
 pub head_passed : (s : List ℕ) → number_of (head_tests s) ≡ 0 → (least_length ≤ length s) × (count_of s 0 ≡ edition)
 unfolding head_tests
 head_passed s z =
-    let p = passed (not (ltb (length s) least_length)) fileLength (λ _. require (eqb (count_of s 0) edition) fileEdition) z in
-    (ltb-false (length s) least_length (not-true (ltb (length s) least_length) p.0), eqb-true (count_of s 0) edition (passed_last (eqb (count_of s 0) edition) fileEdition p.1))
+    let p = passed (not (ltb (length s) least_length)) FileLength (λ _. require (eqb (count_of s 0) edition) FileEdition) z in
+    (ltb-false (length s) least_length (not-true (ltb (length s) least_length) p.0), eqb-true (count_of s 0) edition (passed_last (eqb (count_of s 0) edition) FileEdition p.1))
 
 -- 12, then 14
 pub form_passed : (n : ℕ) (s : List ℕ) → number_of (form_tests n s) ≡ 0 → (length s ≡ length_of edition n) × (offsets_in edition s ≡ offsets edition n)
 unfolding form_tests
 form_passed n s z =
-    let p = passed (eqb (length s) (length_of edition n)) fileLength (λ _. require (same (offsets_in edition s) (offsets edition n)) fileOffsets) z in
-    (eqb-true (length s) (length_of edition n) p.0, same_is (offsets_in edition s) (offsets edition n) (passed_last (same (offsets_in edition s) (offsets edition n)) fileOffsets p.1))
+    let p = passed (eqb (length s) (length_of edition n)) FileLength (λ _. require (same (offsets_in edition s) (offsets edition n)) FileOffsets) z in
+    (eqb-true (length s) (length_of edition n) p.0, same_is (offsets_in edition s) (offsets edition n) (passed_last (same (offsets_in edition s) (offsets edition n)) FileOffsets p.1))
 
 let_by : (b : Bool) (r : Refusal) → b ≡ true → require b r ≡ done tt
 unfolding require
@@ -66,10 +68,10 @@ module _ (fits : ℕ → Bool) (poured : List Row) (s : List ℕ) where
   opened_of z =
       let n = count_of s 1 in
       let rest : Unit {0} → Outcome Channel = λ _. body_tests n poured s >>= λ _. done (channel_of s) in
-      let after : Unit {0} → Outcome Channel = λ _. require (shape_passes fits poured n) shape >>= rest in
+      let after : Unit {0} → Outcome Channel = λ _. require (shape_passes fits poured n) Shape >>= rest in
       let e : number_of (head_tests s >>= after) ≡ 0 = sym (ap number_of (read_is fits poured s)) ∙ sym z in
       let h = both_done (head_tests s) after e in
-      let t = passed (shape_passes fits poured n) shape rest h.1 in
+      let t = passed (shape_passes fits poured n) Shape rest h.1 in
       let b = both_done (body_tests n poured s) (λ _. done (channel_of s)) t.1 in
       let f = both_done (form_tests n s) (λ _. allowed (channel_of s) poured) b.0 in
       let r = both (cells_allowed n && fits n) (long n poured) t.0 in
@@ -81,7 +83,7 @@ module _ (fits : ℕ → Bool) (poured : List Row) (s : List ℕ) where
         is =
             read_is fits poured s
             ∙ after_done (head_tests s) tt after (done_of (head_tests s) h.0)
-            ∙ after_done (require (shape_passes fits poured n) shape) tt rest (let_by (shape_passes fits poured n) shape t.0)
+            ∙ after_done (require (shape_passes fits poured n) Shape) tt rest (let_by (shape_passes fits poured n) Shape t.0)
             ∙ after_done (body_tests n poured s) tt (λ _. done (channel_of s)) (done_of (body_tests n poured s) b.0);
         head = top.0;
         first = top.1;
@@ -91,18 +93,18 @@ module _ (fits : ℕ → Bool) (poured : List Row) (s : List ℕ) where
         placed = form.1;
         fitting = c.1;
         poured_long = r.1;
-        checked_0 = numbered (passes (shaped (channel_of s) poured) shape (λ _. allowed (channel_of s) poured) (shaped_held s poured c.0 r.1)) ∙ f.1;
+        checked_0 = numbered (passes (shaped (channel_of s) poured) Shape (λ _. allowed (channel_of s) poured) (shaped_held s poured c.0 r.1)) ∙ f.1;
       }
 
   -- a refusal of a reader has stage 0
   pub read_outside : Outside (read_with fits poured s)
   unfolding read_with number
   read_outside =
-      refuses_test Early _ fileLength _ refl
-      (refuses_test Early _ fileEdition _ refl
-      (refuses_test Early _ shape _ refl
-      (refuses_test Early _ fileLength _ refl
-      (refuses_test Early _ fileOffsets _ refl
+      refuses_test Early _ FileLength _ refl
+      (refuses_test Early _ FileEdition _ refl
+      (refuses_test Early _ Shape _ refl
+      (refuses_test Early _ FileLength _ refl
+      (refuses_test Early _ FileOffsets _ refl
       (refuses_then Early (allowed (channel_of s) poured) _ (allowed_outside (channel_of s) poured) (λ _. tt))))))
 
   -- from any other

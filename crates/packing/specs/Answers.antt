@@ -4,7 +4,8 @@ use Rattle.std.proofs.Math.Path.{refl}
 use Rattle.rule.specs.Rows.{Row}
 use Rattle.rule.specs.Ranges.{cells_allowed}
 use Rattle.rule.specs.Channel.{Channel}
-use Rattle.rule.specs.Refusals.{Outcome, refused, done, place, shape, speed, fileLength, fileEdition, fileOffsets, bufferLength}
+use Rattle.rule.specs.declared.Refusal.TheVariants.{Shape, Speed, FileLength, FileEdition, FileOffsets, BufferLength}
+use Rattle.rule.specs.Refusals.{Outcome, refused, done, place}
 use Rattle.rule.specs.Flux.{fluxes}
 use Rattle.rule.specs.Checks.{long}
 use Rattle.rule.specs.Make.{reduced_velocities, make}
@@ -19,13 +20,13 @@ use Rattle.packing.specs.Steps.{fluxes_bounded, step_small, filter_small, run_sm
 pub read_bounded : (fits : ℕ → Bool) (poured : List Row) (s : List ℕ) → Bounded (read_with fits poured s)
 unfolding read_with channel_of place
 read_bounded fits poured s =
-    bounded_test _ fileLength _ refl (λ _.
-    bounded_test _ fileEdition _ refl (λ _.
-    bounded_test (cells_allowed (count_of s 1) && fits (count_of s 1) && long (count_of s 1) poured) shape _ refl (λ p.
+    bounded_test _ FileLength _ refl (λ _.
+    bounded_test _ FileEdition _ refl (λ _.
+    bounded_test (cells_allowed (count_of s 1) && fits (count_of s 1) && long (count_of s 1) poured) Shape _ refl (λ p.
     let q = both (cells_allowed (count_of s 1) && fits (count_of s 1)) (long (count_of s 1) poured) p in
     let cells = (both (cells_allowed (count_of s 1)) (fits (count_of s 1)) q.0).0 in
-    bounded_test _ fileLength _ refl (λ _.
-    bounded_test _ fileOffsets _ refl (λ _.
+    bounded_test _ FileLength _ refl (λ _.
+    bounded_test _ FileOffsets _ refl (λ _.
     bounded_then _ _ (allowed_bounded (channel_of s) poured (shaped_held s poured cells q.1)) (λ _ _. tt))))))
 
 by_read : (f : Channel → Called Channel) (s : List ℕ) (m : Outcome Channel) → Bounded m → ((c : Channel) → Small (f c).answer) → Small (on_file f s m).answer
@@ -55,14 +56,14 @@ module _ (n X T wanted : ℕ) (h e u damping : Row) where
   unfolding make reduced_velocities place
   make_bounded =
       bounded_then _ _ (made_bounded n X T wanted h e u damping) (λ _ _.
-      bounded_then (reduced_velocities n X h u) _ (bounded_test _ speed _ refl (λ _. tt)) (λ _ _.
+      bounded_then (reduced_velocities n X h u) _ (bounded_test _ Speed _ refl (λ _. tt)) (λ _ _.
       bounded_then (fluxes n X h e u) _ (fluxes_bounded n X h e u) (λ _ _. tt)))
 
 pub make_answer : (n X T wanted : ℕ) (h e u damping buffer : List ℕ) → Small (make_file n X T wanted h e u damping buffer).answer
 unfolding make_file place
 make_answer n X T wanted h e u damping buffer =
     uncounted_small buffer _ _
-    (bounded_test _ shape _ refl (λ _.
+    (bounded_test _ Shape _ refl (λ _.
     bounded_then _ _ (made_bounded n X T wanted (row_in h) (row_in e) (row_in u) (row_in damping)) (λ _ _.
-    bounded_test _ bufferLength _ refl (λ _.
+    bounded_test _ BufferLength _ refl (λ _.
     make_bounded n X T wanted (row_in h) (row_in e) (row_in u) (row_in damping)))))

@@ -4,7 +4,8 @@ use Rattle.std.proofs.Common.{arith, sym, ap, ◌∙◌, subst}
 use Rattle.rule.specs.declared.Answer.{Answer}
 use Rattle.rule.specs.Rows.{all, lowest}
 use Rattle.rule.specs.Channel.{level_of}
-use Rattle.rule.specs.Refusals.{Refusal, number, place, Outcome, refused, done, ◌>>=◌, require, at}
+use Rattle.rule.specs.declared.Refusal.{Refusal}
+use Rattle.rule.specs.Refusals.{number, place, Outcome, refused, done, ◌>>=◌, require, at}
 use Rattle.rule.specs.Checks.{each, each_level}
 use Rattle.rule.specs.Calls.{Called, called, packed}
 use Rattle.rule.specs.Ranges.{most_cells, most_steps}

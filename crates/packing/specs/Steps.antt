@@ -5,7 +5,8 @@ use Rattle.std.specs.Prelude.{◌≡◌, refl, Bool, true, false, not, cond, Lis
 use Rattle.std.proofs.Common.{sym, subst}
 use Rattle.rule.specs.Rows.{Row}
 use Rattle.rule.specs.Channel.{Channel}
-use Rattle.rule.specs.Refusals.{Outcome, refused, done, place, require, pivot, speed, height, flux, complete, ◌>>=◌}
+use Rattle.rule.specs.declared.Refusal.TheVariants.{Pivot, Speed, Height, Flux, Complete}
+use Rattle.rule.specs.Refusals.{Outcome, refused, done, place, require, ◌>>=◌}
 use Rattle.rule.specs.Flux.{fluxes}
 use Rattle.rule.specs.Solve.{solve}
 use Rattle.rule.specs.Checks.{checked, is_complete, ready}
@@ -24,19 +25,19 @@ use Rattle.packing.specs.Inputs.{deep_bounded, checked_bounded, ready_bounded}
 solve_bounded : (n X : ℕ) (h v : Row) → Bounded (solve n X h v)
 unfolding solve place
 solve_bounded n X h v =
-    bounded_test _ pivot _ refl (λ _. bounded_test _ speed _ refl (λ _. tt))
+    bounded_test _ Pivot _ refl (λ _. bounded_test _ Speed _ refl (λ _. tt))
 
 pub fluxes_bounded : (n X : ℕ) (h e u : Row) → Bounded (fluxes n X h e u)
 unfolding fluxes place
-fluxes_bounded n X h e u = bounded_test _ flux _ refl (λ _. tt)
+fluxes_bounded n X h e u = bounded_test _ Flux _ refl (λ _. tt)
 
 -- the checks of a stage
 tried_bounded : (c : Channel) (e v : Row) → c.N ≤ most_cells → Bounded (tried c e v)
 unfolding tried place
 tried_bounded c e v few =
-    bounded_test _ height _ refl (λ _.
+    bounded_test _ Height _ refl (λ _.
     bounded_then _ _ (deep_bounded c.N c.h e few) (λ _ _.
-    bounded_test _ speed _ refl (λ _.
+    bounded_test _ Speed _ refl (λ _.
     bounded_then _ _ (solve_bounded c.N c.X c.h v) (λ u _.
     bounded_then _ _ (fluxes_bounded c.N c.X c.h e u) (λ Q _. tt)))))
 
@@ -44,7 +45,7 @@ tried_bounded c e v few =
 few_of : (c : Channel) (poured : List Row) (x : Unit {0}) → ready c poured ≡ done x → c.N ≤ most_cells
 unfolding ready
 few_of c poured x e =
-    let z = first_done (checked c poured) (λ _. require (not (is_complete c)) complete) (number_of_done _ x e) in
+    let z = first_done (checked c poured) (λ _. require (not (is_complete c)) Complete) (number_of_done _ x e) in
     (allowed_of c poured z).cells.most
 
 -- corrections of a step, from correction k on

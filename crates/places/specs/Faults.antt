@@ -3,9 +3,11 @@ use Rattle.std.specs.Prelude.{ℕ, ◌≡◌, Bool, cond, List, eqb}
 use Rattle.std.proofs.Common.{◌∙◌, ap, ne_eqb}
 use Rattle.std.proofs.Math.Path.{refl, sym}
 use Rattle.std.proofs.Math.Bool.{true, false}
-use Rattle.rule.specs.declared.Fault.{Fault}
+use Rattle.rule.specs.Refusals.{Fault}
 use Rattle.rule.specs.Rows.{all, lowest}
-use Rattle.rule.specs.Refusals.{Refusal, depthValue, heightValue, velocityValue, reducedValue, fluxValue, accelerationValue, dampingValue, pouredValue, depth, dominance, number, place, Outcome, refused, done, ◌>>=◌, require, number_of, place_of, fault_of}
+use Rattle.rule.specs.declared.Refusal.{Refusal}
+use Rattle.rule.specs.declared.Refusal.TheVariants.{DepthValue, HeightValue, VelocityValue, ReducedValue, FluxValue, AccelerationValue, DampingValue, PouredValue, Depth, Dominance}
+use Rattle.rule.specs.Refusals.{number, place, Outcome, refused, done, ◌>>=◌, require, number_of, place_of, fault_of}
 use Rattle.rule.specs.Checks.{each}
 use Rattle.places.specs.Lowest.{lowest_none, lowest_some}
 
@@ -37,43 +39,43 @@ pub record Numbered (k : ℕ) (r : ℕ → Refusal) : Type 0 where
   pub numbered : (j : ℕ) → number (r j) ≡ k
   pub placed : (j : ℕ) → place (r j) ≡ j
 
-pub depth_value : Numbered 31 depthValue
+pub depth_value : Numbered 31 DepthValue
 unfolding number place
 depth_value = record { numbered = λ j. refl; placed = λ j. refl }
 
-pub height_value : Numbered 32 heightValue
+pub height_value : Numbered 32 HeightValue
 unfolding number place
 height_value = record { numbered = λ j. refl; placed = λ j. refl }
 
-pub velocity_value : Numbered 33 velocityValue
+pub velocity_value : Numbered 33 VelocityValue
 unfolding number place
 velocity_value = record { numbered = λ j. refl; placed = λ j. refl }
 
-pub reduced_value : Numbered 34 reducedValue
+pub reduced_value : Numbered 34 ReducedValue
 unfolding number place
 reduced_value = record { numbered = λ j. refl; placed = λ j. refl }
 
-pub flux_value : Numbered 35 fluxValue
+pub flux_value : Numbered 35 FluxValue
 unfolding number place
 flux_value = record { numbered = λ j. refl; placed = λ j. refl }
 
-pub acceleration_value : Numbered 36 accelerationValue
+pub acceleration_value : Numbered 36 AccelerationValue
 unfolding number place
 acceleration_value = record { numbered = λ j. refl; placed = λ j. refl }
 
-pub damping_value : Numbered 38 dampingValue
+pub damping_value : Numbered 38 DampingValue
 unfolding number place
 damping_value = record { numbered = λ j. refl; placed = λ j. refl }
 
-pub poured_value : Numbered 37 pouredValue
+pub poured_value : Numbered 37 PouredValue
 unfolding number place
 poured_value = record { numbered = λ j. refl; placed = λ j. refl }
 
-pub water_depth : Numbered 4 depth
+pub water_depth : Numbered 4 Depth
 unfolding number place
 water_depth = record { numbered = λ j. refl; placed = λ j. refl }
 
-pub row_dominance : Numbered 5 dominance
+pub row_dominance : Numbered 5 Dominance
 unfolding number place
 row_dominance = record { numbered = λ j. refl; placed = λ j. refl }
 

@@ -4,7 +4,8 @@ use Rattle.std.proofs.Math.Numerals.{add-one}
 use native.Mathlib.Omega.{arith}
 use Rattle.std.proofs.Math.Path.{◌≡◌, refl, sym, ap}
 use Rattle.std.proofs.Common.{◌∙◌, ne_eqb}
-use Rattle.std.specs.Prelude.{Bool, not, cond, ◌&&◌, eqb, get_or}
+use Rattle.std.specs.Option.{is_some}
+use Rattle.std.specs.Prelude.{Option, None, Some, Bool, not, cond, ◌&&◌, eqb, get_or}
 use Rattle.std.proofs.Math.Bool.{true, false}
 use mathlib.Core.List.{List, [], ◌∷◌, ◌++◌}
 use Rattle.std.proofs.Math.ListN.{length}
@@ -148,3 +149,50 @@ module _ {A : Type 0} (p : A → Bool) where
     pub lowest_at : (l : List A) (j : ℕ) → lowest p l ≡ suc j → Lowest d l j
     unfolding lowest
     lowest_at l j e = let z : suc j ≡ suc (0 + j) = omega arith in at_after 0 l j (e ∙ z)
+
+-- as the code has it: the place, or none
+unfoldable pub found : ℕ → Option ℕ
+found zero = None
+found (suc k) = Some (suc k)
+
+unfoldable pub lower_place : Option ℕ → Bool → ℕ → Option ℕ
+lower_place place true k = place
+lower_place None false k = Some (k + 1)
+lower_place (Some m) false k = Some m
+
+-- by the test that the code makes
+pub lower_here : (place : Option ℕ) (none passes : Bool) (k : ℕ) → is_some place ≡ not none → none && not passes ≡ true → Some (k + 1) ≡ lower_place place passes k
+unfolding lower_place
+lower_here None true false k e h = refl
+lower_here None true true k e h = cc h
+lower_here None false passes k e h = cc h
+lower_here (Some m) true passes k e h = cc e
+lower_here (Some m) false passes k e h = cc h
+
+pub lower_before : (place : Option ℕ) (none passes : Bool) (k : ℕ) → is_some place ≡ not none → none && not passes ≡ false → place ≡ lower_place place passes k
+unfolding lower_place
+lower_before place none true k e h = refl
+lower_before None true false k e h = cc h
+lower_before None false false k e h = cc e
+lower_before (Some m) none false k e h = refl
+
+found_lower : (m : ℕ) (b : Bool) (k : ℕ) → lower_place (found m) b k ≡ found (lower m b k)
+unfolding found lower_place lower
+found_lower zero true k = refl
+found_lower zero false k = rw add-one refl
+found_lower (suc m) true k = rw (ne_eqb (suc m) 0 (λ z. omega (arith, z)))
+found_lower (suc m) false k = rw (ne_eqb (suc m) 0 (λ z. omega (arith, z)))
+
+module _ {A : Type 0} (p : A → Bool) where
+  module _ (f : ℕ → A) where
+    pub found_before : None ≡ found (lowest p (tab 0 f))
+    unfolding found
+    found_before = ap found (lower_none p f)
+
+    -- one entry more at the end
+    pub found_more : (n : ℕ) → lower_place (found (lowest p (tab n f))) (p (f n)) n ≡ found (lowest p (tab (n + 1) f))
+    found_more n = found_lower (lowest p (tab n f)) (p (f n)) n ∙ ap found (lower_more p f n)
+
+  pub found_none : (l : List A) → all p l ≡ true → None ≡ found (lowest p l)
+  unfolding found
+  found_none l e = ap found (sym (lowest_none p l e))

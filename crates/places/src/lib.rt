@@ -1,28 +1,25 @@
-// Refusal numbers: the lowest place at fault, found by one step of a loop over any row, and the first of several tests.
+// Refusal numbers: a test that fails, and the lowest place of what does not pass, found by one step of a loop over any row.
 #![tactic(auto)]
 
 ghost use Rattle.std.specs.Prelude.{◌≡◌, ◌+◌, ◌<◌, ◌^◌};
-ghost use Rattle.places.specs.Lowest.{lower};
-ghost use Rattle.places.specs.Faults.{or_fault};
+ghost use Rattle.rule.specs.Refusals.{met, require};
+ghost use Rattle.places.specs.Lowest.{lower_place};
 
-// The lowest place, counted from 1, of an entry that does not pass, once the entry after j others is looked at too: 0 as long as
-// every entry passes.
-pub fn lower(place: u64, passes: bool, j: usize) -> u64
-    requires { j + 1 < 2 ^ 64 }
-    ensures { result ≡ lower place passes j }
+// The refusal where a test fails.
+pub fn require(passes: bool, refusal: rule::Refusal) -> Result<(), rule::Refusal>
+    ensures { result ≡ met (require passes refusal) }
 {
-    if (place == 0) & !passes {
-        return j as u64 + 1;
-    }
-    place
+    if passes { Ok(()) } else { Err(refusal) }
 }
 
-// The refusal of this number where a place is at fault, or what follows.
-pub fn or_fault(number: u64, place: u64, rest: rule::Fault) -> rule::Fault
-    ensures { result ≡ or_fault number place rest }
+// The lowest place, counted from 1, of an entry that does not pass, once the entry after j others is looked at too: none as long
+// as every entry passes.
+pub fn lower(place: Option<u64>, passes: bool, j: usize) -> Option<u64>
+    requires { j + 1 < 2 ^ 64 }
+    ensures { result ≡ lower_place place passes j }
 {
-    if place == 0 {
-        return rest;
+    if place.is_none() & !passes {
+        return Some(j as u64 + 1);
     }
-    rule::Fault { number, place }
+    place
 }

@@ -1,7 +1,8 @@
 -- Running: each step of a run, by its outcome. Assumes nothing.
 use Rattle.std.specs.Prelude.{ℕ, suc, ◌≡◌}
 use Rattle.rule.specs.Channel.{Channel}
-use Rattle.rule.specs.Refusals.{Refusal, refused, done}
+use Rattle.rule.specs.declared.Refusal.{Refusal}
+use Rattle.rule.specs.Refusals.{refused, done}
 use Rattle.rule.specs.Step.{Stepped, step}
 use Rattle.rule.specs.Run.{open_by, run_on}
 use Rattle.run_for.specs.Runs.{nothing}

@@ -3,10 +3,11 @@ use Rattle.std.specs.Prelude.{ℕ, zero, suc, ◌+◌, ◌-◌, ◌≤◌, ◌<�
 use Rattle.std.proofs.Common.{suc-add, sym, ◌∙◌, ap, add-one, arith, ltb-true, lt-ltb, le-ltb}
 use Rattle.std.proofs.Math.Decide.{dec_lt}
 use Rattle.rule.specs.declared.Answer.{Answer}
-use Rattle.rule.specs.declared.Fault.{Fault}
+use Rattle.rule.specs.Refusals.{Fault}
 use Rattle.rule.specs.Rows.{Row}
 use Rattle.rule.specs.Channel.{Channel, moved}
-use Rattle.rule.specs.Refusals.{Refusal, number_of, fault_of, Outcome, refused, done, ◌>>=◌}
+use Rattle.rule.specs.declared.Refusal.{Refusal}
+use Rattle.rule.specs.Refusals.{number_of, fault_of, Outcome, refused, done, ◌>>=◌}
 use Rattle.rule.specs.Checks.{checked, is_complete}
 use Rattle.rule.specs.Step.{Stepped, step}
 use Rattle.rule.specs.Run.{Ending, Ran, whole, open_by, paused, run_on, run, run_for}

@@ -7,7 +7,9 @@ use Rattle.std.proofs.lemmas.Bool.{lt-leb}
 use Rattle.whole.specs.Ring.{num, ◌⊖◌, ring}
 use Rattle.whole.specs.Tests.{and_yes, both}
 use Rattle.rule.specs.Rows.{Row, cell, map, all}
-use Rattle.rule.specs.Refusals.{Refusal, Outcome, done, ◌>>=◌, require, bufferLength}
+use Rattle.rule.specs.declared.Refusal.{Refusal}
+use Rattle.rule.specs.declared.Refusal.TheVariants.{BufferLength}
+use Rattle.rule.specs.Refusals.{Outcome, done, ◌>>=◌, require}
 use Rattle.rows.specs.All.{all_append}
 use Rattle.places.specs.Faults.{regroup}
 use Rattle.checks.specs.Numbers.{after_done}
@@ -153,7 +155,7 @@ module _ (ss : List Staff) (long : length ss ≡ 8) (proper : Each Proper ss) wh
   pub read_staffs : readings (state_for ss) read_numbers ≡ done (flat (map reading (map gauge_for ss)))
   unfolding readings readable
   read_staffs =
-      after_done (formed (state_for ss) >>= λ _. require (eqb read_numbers read_numbers) bufferLength) tt _ (after_done (formed (state_for ss)) tt _ formed_for ∙ let_by _ _ refl)
+      after_done (formed (state_for ss) >>= λ _. require (eqb read_numbers read_numbers) BufferLength) tt _ (after_done (formed (state_for ss)) tt _ formed_for ∙ let_by _ _ refl)
       ∙ ap (λ gs. done (flat (map reading gs))) gauges_for
 
 -- of each its cell, and the counts of its record

@@ -6,7 +6,8 @@ use Rattle.whole.specs.Row.{Within}
 use Rattle.rule.specs.Rows.{Row, sum}
 use Rattle.rule.specs.Channel.{Channel}
 use Rattle.rule.specs.Checks.{is_complete}
-use Rattle.rule.specs.Refusals.{Refusal, refused, number}
+use Rattle.rule.specs.declared.Refusal.{Refusal}
+use Rattle.rule.specs.Refusals.{refused, number}
 use Rattle.rule.specs.Line.{decimal, signed_decimal, channel_line, line}
 use Rattle.rule.specs.Ranges.{most_cells, most_height}
 use Rattle.text.specs.Decimal.{length-decimal, length-signed}

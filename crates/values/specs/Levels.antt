@@ -2,10 +2,11 @@
 use Rattle.std.specs.Prelude.{ℕ, ◌+◌, ◌*◌, ◌≡◌, Bool, true, List, ◌++◌, length, take, drop}
 use Rattle.std.proofs.Common.{arith, ◌∙◌, drop-drop, take-add, take_all}
 use Rattle.std.proofs.Math.Path.{sym, ap}
-use Rattle.rule.specs.declared.Fault.{Fault}
+use Rattle.rule.specs.Refusals.{Fault}
 use Rattle.rule.specs.Rows.{all, lowest}
 use Rattle.rule.specs.Channel.{level_of}
-use Rattle.rule.specs.Refusals.{Refusal, Outcome, ◌>>=◌, fault_of}
+use Rattle.rule.specs.declared.Refusal.{Refusal}
+use Rattle.rule.specs.Refusals.{Outcome, ◌>>=◌, fault_of}
 use Rattle.rule.specs.Checks.{each, each_level}
 use Rattle.rows.specs.All.{all_append, all_take, all_drop}
 use Rattle.places.specs.Faults.{or_fault, Numbered, each_then, regroup}

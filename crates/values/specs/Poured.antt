@@ -2,7 +2,8 @@
 use Rattle.std.specs.Prelude.{◌≡◌, refl, Bool, true, false, List, [], ◌∷◌}
 use Rattle.rule.specs.Rows.{Row, lowest}
 use Rattle.rule.specs.Ranges.{within, most_poured}
-use Rattle.rule.specs.Refusals.{pouredValue, done, number_of, place_of, fault_of}
+use Rattle.rule.specs.declared.Refusal.TheVariants.{PouredValue}
+use Rattle.rule.specs.Refusals.{done, number_of, place_of, fault_of}
 use Rattle.rule.specs.Checks.{pourable}
 use Rattle.places.specs.Faults.{none, or_fault, each_then, poured_value}
 
@@ -12,7 +13,7 @@ poured_rows false s = []
 
 pub pours : (s : Row) → or_fault 37 (lowest (within most_poured) s) none ≡ fault_of (pourable (s ∷ []))
 unfolding pourable number_of place_of
-pours s = each_then (within most_poured) s 37 pouredValue poured_value (λ _. done tt) none refl
+pours s = each_then (within most_poured) s 37 PouredValue poured_value (λ _. done tt) none refl
 
 pub pours_none : none ≡ fault_of (pourable [])
 unfolding pourable number_of place_of

@@ -5,7 +5,8 @@ ghost use Rattle.std.specs.Prelude.{◌≡◌, ◌+◌, ◌*◌, ◌-◌, ◌≤
 ghost use Rattle.rule.specs.Rows.{all, lowest};
 ghost use Rattle.rule.specs.Ranges as rule;
 ghost use Rattle.rule.specs.Checks as checks;
-ghost use Rattle.rule.specs.Refusals.{fault_of, dampingValue};
+ghost use Rattle.rule.specs.declared.Refusal.TheVariants.{DampingValue};
+ghost use Rattle.rule.specs.Refusals.{fault_of};
 ghost use Rattle.rows.specs.Firsts.{firsts};
 ghost use Rattle.places.specs.Faults.{or_fault};
 ghost use Rattle.values.specs.Between.{between};
@@ -144,7 +145,7 @@ pub fn levels_or(n: usize, q: &[i64], f: &[i64], rest: rule::Fault) -> rule::Fau
 
 // 38: damping.
 pub fn damping(damping: &[i64]) -> rule::Fault
-    ensures { result ≡ fault_of (checks.each rule.damping_allowed damping.now dampingValue) }
+    ensures { result ≡ fault_of (checks.each rule.damping_allowed damping.now DampingValue) }
 {
     let none = rule::Fault {
         number: 0,

@@ -3,7 +3,8 @@ use Rattle.std.specs.Prelude.{ℕ, zero, suc, ◌≡◌, Bool, true, false, cond
 use Rattle.std.proofs.Math.Path.{refl}
 use Rattle.rule.specs.Rows.{Row}
 use Rattle.rule.specs.Channel.{Channel}
-use Rattle.rule.specs.Refusals.{number, Outcome, refused, done, number_of, ◌>>=◌, at, shape, counts, depthValue, heightValue, velocityValue, reducedValue, fluxValue, accelerationValue, dampingValue, pouredValue, depth, dominance, pivot, speed, height, flux, complete}
+use Rattle.rule.specs.declared.Refusal.TheVariants.{Shape, CountValue, DepthValue, HeightValue, VelocityValue, ReducedValue, FluxValue, AccelerationValue, DampingValue, PouredValue, Depth, Dominance, Pivot, Speed, Height, Flux, Complete}
+use Rattle.rule.specs.Refusals.{number, Outcome, refused, done, number_of, ◌>>=◌, at}
 use Rattle.rule.specs.Flux.{fluxes}
 use Rattle.rule.specs.Solve.{solve}
 use Rattle.rule.specs.Checks.{deep, timed, wet, pourable, allowed, checked, is_complete, ready}
@@ -37,22 +38,22 @@ refuses_cond false x y p q = q
 
 deep_timely : (n : ℕ) (h e : Row) → Refuses (deep n h e)
 unfolding deep number
-deep_timely n h e = meets_each InTime _ _ depth (λ j. refl)
+deep_timely n h e = meets_each InTime _ _ Depth (λ j. refl)
 
 pours_timely : (poured : List Row) → Refuses (pourable poured)
 unfolding pourable number
 pours_timely [] = tt
-pours_timely (s ∷ more) = meets_then InTime _ _ (meets_each InTime _ s pouredValue (λ j. refl)) (λ _. pours_timely more)
+pours_timely (s ∷ more) = meets_then InTime _ _ (meets_each InTime _ s PouredValue (λ j. refl)) (λ _. pours_timely more)
 
 -- what a stage is refused by
 tried_timely : (c : Channel) (e v : Row) → Refuses (tried c e v)
 unfolding tried solve fluxes number
 tried_timely c e v =
-    meets_test InTime _ height _ refl
+    meets_test InTime _ Height _ refl
     (meets_then InTime _ _ (deep_timely c.N c.h e) (λ _.
-    meets_test InTime _ speed _ refl
-    (meets_then InTime _ _ (meets_test InTime _ pivot _ refl (meets_test InTime _ speed _ refl tt)) (λ u.
-    meets_then InTime _ _ (meets_test InTime _ flux _ refl tt) (λ Q. tt)))))
+    meets_test InTime _ Speed _ refl
+    (meets_then InTime _ _ (meets_test InTime _ Pivot _ refl (meets_test InTime _ Speed _ refl tt)) (λ u.
+    meets_then InTime _ _ (meets_test InTime _ Flux _ refl tt) (λ Q. tt)))))
 
 corrections_timely : (c : Channel) (s : Row) (left k : ℕ) (old : Trial) → Refuses (corrections c s left k old)
 unfolding corrections correction stage number
@@ -73,26 +74,26 @@ module _ (c : Channel) (paced : Paced c) where
   pub allowed_timely : (poured : List Row) → Refuses (allowed c poured)
   unfolding allowed wet number
   allowed_timely poured =
-      meets_test InTime _ counts _ refl
-      (meets_then InTime _ _ (meets_each InTime _ c.h depthValue (λ j. refl)) (λ _.
-      meets_then InTime _ _ (meets_each InTime _ c.e heightValue (λ j. refl)) (λ _.
-      meets_then InTime _ _ (meets_each InTime _ c.u velocityValue (λ j. refl)) (λ _.
-      meets_then InTime _ _ (meets_each InTime _ c.v reducedValue (λ j. refl)) (λ _.
-      meets_then InTime _ _ (meets_levels InTime _ _ c.Q fluxValue (λ j. refl)) (λ _.
-      meets_then InTime _ _ (meets_levels InTime _ _ c.F accelerationValue (λ j. refl)) (λ _.
-      meets_then InTime _ _ (meets_each InTime _ c.damping dampingValue (λ j. refl)) (λ _.
+      meets_test InTime _ CountValue _ refl
+      (meets_then InTime _ _ (meets_each InTime _ c.h DepthValue (λ j. refl)) (λ _.
+      meets_then InTime _ _ (meets_each InTime _ c.e HeightValue (λ j. refl)) (λ _.
+      meets_then InTime _ _ (meets_each InTime _ c.u VelocityValue (λ j. refl)) (λ _.
+      meets_then InTime _ _ (meets_each InTime _ c.v ReducedValue (λ j. refl)) (λ _.
+      meets_then InTime _ _ (meets_levels InTime _ _ c.Q FluxValue (λ j. refl)) (λ _.
+      meets_then InTime _ _ (meets_levels InTime _ _ c.F AccelerationValue (λ j. refl)) (λ _.
+      meets_then InTime _ _ (meets_each InTime _ c.damping DampingValue (λ j. refl)) (λ _.
       meets_then InTime _ _ (pours_timely poured) (λ _.
       meets_then InTime _ _ (deep_timely c.N c.h c.e) (λ _.
       meets_then InTime _ _ pace_timely (λ _.
-      meets_each InTime _ _ dominance (λ j. refl))))))))))))
+      meets_each InTime _ _ Dominance (λ j. refl))))))))))))
 
   checked_timely : (poured : List Row) → Refuses (checked c poured)
   unfolding checked number
-  checked_timely poured = meets_test InTime _ shape _ refl (allowed_timely poured)
+  checked_timely poured = meets_test InTime _ Shape _ refl (allowed_timely poured)
 
   ready_timely : (poured : List Row) → Refuses (ready c poured)
   unfolding ready number
-  ready_timely poured = meets_then InTime (checked c poured) _ (checked_timely poured) (λ _. meets_last InTime _ complete refl)
+  ready_timely poured = meets_then InTime (checked c poured) _ (checked_timely poured) (λ _. meets_last InTime _ Complete refl)
 
   step_refuses : (s : Row) → Refuses (step c s)
   unfolding step prediction stage

@@ -4,10 +4,11 @@ use Rattle.std.proofs.Math.Path.{sym, ap}
 use Rattle.std.proofs.Common.{◌∙◌, arith}
 use Rattle.std.proofs.Math.ListN.{get_or-append}
 use Rattle.whole.specs.Row.{tab_ext, zeros, padded}
-use Rattle.rule.specs.declared.Fault.{Fault}
+use Rattle.rule.specs.Refusals.{Fault}
 use Rattle.rule.specs.Rows.{Row, cell}
 use Rattle.rule.specs.Channel.{Channel, channel, filled}
-use Rattle.rule.specs.Refusals.{Outcome, refused, done, speed, place, number_of, place_of, fault_of, ◌>>=◌}
+use Rattle.rule.specs.declared.Refusal.TheVariants.{Speed}
+use Rattle.rule.specs.Refusals.{Outcome, refused, done, place, number_of, place_of, fault_of, ◌>>=◌}
 use Rattle.rule.specs.Flux.{fluxes}
 use Rattle.rule.specs.Acceleration.{accelerations}
 use Rattle.rule.specs.Make.{make_checked, make, reduced_velocities}
@@ -57,7 +58,7 @@ stops n r (done a) f e z = absurd (z (numbered e))
 -- 7 has no place
 velocities_plain : (n X : ℕ) (h u : Row) → Plain (reduced_velocities n X h u)
 unfolding reduced_velocities place
-velocities_plain n X h u = plain_then _ _ (plain_last _ speed refl) (λ _. tt)
+velocities_plain n X h u = plain_then _ _ (plain_last _ Speed refl) (λ _. tt)
 
 -- an outcome's number, and its row in an array
 pub record Kept (n : ℕ) (m : Outcome Row) (r : ℕ) (array : Row) : Type 0 where

@@ -4,7 +4,7 @@ use mathlib.Core.List.{[], ◌∷◌}
 use Rattle.rule.specs.Rows.{Row}
 use Rattle.rule.specs.Channel.{Channel}
 use Rattle.rule.specs.Counted.{counted}
-use Rattle.rule.specs.declared.Fault.{Fault}
+use Rattle.rule.specs.Refusals.{Fault}
 use Rattle.rule.specs.Refusals.{number_of}
 use Rattle.rule.specs.Checks.{checked}
 use Rattle.places.specs.Faults.{plain}
