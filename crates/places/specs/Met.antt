@@ -1,5 +1,6 @@
 -- Refusal numbers: what code answers of a check, of its parts one after the other, and the fault that it tells. Assumes nothing.
 use Rattle.std.specs.Prelude.{ℕ, zero, suc, ◌≡◌, Bool, List, Option, None, Some, Result, Ok, Err}
+use Rattle.std.specs.Result.{IsErrAnd, result_and}
 use Rattle.std.proofs.Common.{◌∙◌, ap, sym}
 use Rattle.std.proofs.Math.Path.{refl}
 use Rattle.std.proofs.Math.Bool.{true, false}
@@ -55,3 +56,18 @@ each_by p row r false e = ap (refusal_at r) (found_some (lowest p row) (lowest_s
 pub each_met : {A : Type 0} (p : A → Bool) (row : List A) (r : ℕ → Refusal) → refusal_at r (found (lowest p row)) ≡ met (each p row r)
 unfolding each
 each_met p row r = each_by p row r (all p row) refl
+
+-- what `?` hands on
+pub from_err : {A E : Type 0} (r : Result A E) (e : E) → IsErrAnd r (λ y. y ≡ e) → r ≡ Err e
+from_err (Ok a) e h = absurd h
+from_err (Err y) e h = ap (λ x. Err x) h
+
+-- a first part that is refused, at the return that `?` makes
+pub refused_first : {A B : Type 0} (m : Outcome A) (f : A → Outcome B) (e : Refusal) → Err e ≡ met m → (r : Result B Refusal) → IsErrAnd r (λ y. y ≡ e) → r ≡ met (m >>= f)
+refused_first m f e h r k = from_err r e k ∙ err_first m f e h
+
+-- two checks, of which the second asks nothing of the first
+pub both_met : {A B : Type 0} (m : Outcome A) (m' : Outcome B) → result_and (met m) (met m') ≡ met (m >>= λ _. m')
+unfolding met ◌>>=◌
+both_met (refused r k) m' = refl
+both_met (done a) m' = refl

@@ -1,12 +1,15 @@
 -- Refusal numbers: three levels of m entries are tested one after the other, the newest first. Assumes nothing.
-use Rattle.std.specs.Prelude.{ℕ, ◌+◌, ◌*◌, ◌≡◌, Bool, true, List, ◌++◌, length, take, drop}
+use Rattle.places.specs.Lowest.{found}
+use Rattle.places.specs.Met.{refusal_at, each_met, err_first, ok_then}
+use Rattle.std.specs.Option.{option_or}
+use Rattle.std.specs.Prelude.{Option, None, Some, Result, Ok, Err, ℕ, ◌+◌, ◌*◌, ◌≡◌, Bool, true, List, ◌++◌, length, take, drop}
 use Rattle.std.proofs.Common.{arith, ◌∙◌, drop-drop, take-add, take_all}
 use Rattle.std.proofs.Math.Path.{sym, ap}
 use Rattle.rule.specs.Refusals.{Fault}
 use Rattle.rule.specs.Rows.{all, lowest}
 use Rattle.rule.specs.Channel.{level_of}
 use Rattle.rule.specs.declared.Refusal.{Refusal}
-use Rattle.rule.specs.Refusals.{Outcome, ◌>>=◌, fault_of}
+use Rattle.rule.specs.Refusals.{Outcome, ◌>>=◌, fault_of, met}
 use Rattle.rule.specs.Checks.{each, each_level}
 use Rattle.rows.specs.All.{all_append, all_take, all_drop}
 use Rattle.places.specs.Faults.{or_fault, Numbered, each_then, regroup}
@@ -16,6 +19,11 @@ abbrev pub or_level : {A : Type 0} → ℕ → ℕ → (A → Bool) → List A �
 or_level k m p levels rest =
     or_fault k (lowest p (level_of m levels 0))
     (or_fault k (lowest p (level_of m levels 1)) (or_fault k (lowest p (level_of m levels 2)) rest))
+
+-- the lowest place in the newest level that has one
+abbrev pub lowest_level : {A : Type 0} → ℕ → (A → Bool) → List A → Option ℕ
+lowest_level m p levels =
+    option_or (option_or (found (lowest p (level_of m levels 0))) (found (lowest p (level_of m levels 1)))) (found (lowest p (level_of m levels 2)))
 
 -- as the rule's chain has them
 module _ {A B : Type 0} (m : ℕ) (p : A → Bool) (levels : List A) (r : ℕ → Refusal) (f : Unit {0} → Outcome B) where
@@ -33,6 +41,20 @@ module _ {A B : Type 0} (m : ℕ) (p : A → Bool) (levels : List A) (r : ℕ �
       each_then p (level_of m levels 0) k r is (after 1 (after 2 f)) _
       (each_then p (level_of m levels 1) k r is (after 2 f) _ (each_then p (level_of m levels 2) k r is f rest q))
       ∙ ap fault_of (sym in_turn)
+
+-- two tests one after the other, by the places that they find
+two_met : (m m' : Outcome (Unit {0})) (r : ℕ → Refusal) (a b : Option ℕ) → refusal_at r a ≡ met m → refusal_at r b ≡ met m' → refusal_at r (option_or a b) ≡ met (m >>= λ _. m')
+two_met m m' r None b e f = f ∙ ok_then m _ tt e
+two_met m m' r (Some j) b e f = err_first m _ (r j) e
+
+-- the refusal of the lowest place in the newest level that has one
+pub level_met : {A : Type 0} (m : ℕ) (p : A → Bool) (levels : List A) (r : ℕ → Refusal) → refusal_at r (lowest_level m p levels) ≡ met (each_level m p levels r)
+unfolding each_level
+level_met m p levels r =
+    two_met _ _ r _ _
+    (two_met _ _ r _ _ (each_met p (level_of m levels 0) r) (each_met p (level_of m levels 1) r))
+    (each_met p (level_of m levels 2) r)
+    ∙ ap met (sym (regroup (each p (level_of m levels 0) r) (λ _. each p (level_of m levels 1) r) (λ _. each p (level_of m levels 2) r)))
 
 -- the levels are all entries
 module _ {A : Type 0} (p : A → Bool) where

@@ -1,3 +1,4 @@
 pub mod Between
 pub mod Levels
 pub mod Poured
+pub mod Chains

@@ -5,21 +5,20 @@ ghost use Rattle.std.specs.Prelude.{◌≡◌, ◌+◌, ◌*◌, ◌-◌, ◌≤
 ghost use Rattle.rule.specs.Rows.{all, lowest};
 ghost use Rattle.rule.specs.Ranges as rule;
 ghost use Rattle.rule.specs.Checks as checks;
-ghost use Rattle.rule.specs.declared.Refusal.TheVariants.{DampingValue};
-ghost use Rattle.rule.specs.Refusals.{fault_of};
+ghost use Rattle.rule.specs.declared.Refusal.TheVariants.{VelocityValue, ReducedValue, DampingValue};
+ghost use Rattle.rule.specs.Refusals.{met};
 ghost use Rattle.rows.specs.Firsts.{firsts};
-ghost use Rattle.places.specs.Faults.{or_fault};
+ghost use Rattle.places.specs.Lowest.{found};
 ghost use Rattle.values.specs.Between.{between};
-ghost use Rattle.values.specs.Levels.{or_level};
+ghost use Rattle.values.specs.Chains as chains;
+ghost use Rattle.values.specs.Levels.{lowest_level};
 ghost use Rattle.values.specs.Poured.{poured_rows};
 
 // An entry is within `most` of zero.
 fn within(x: i64, most: u64) -> bool
-    requires { most ≤ 2 ^ 62 }
     ensures { result ≡ rule.within most x }
 {
-    let top = most as i64;
-    (0 - top <= x) & (x <= top)
+    x.unsigned_abs() <= most
 }
 
 // Each of the first n entries is within `most` of zero. The loop goes to its end, so that entries are tested side by side.
@@ -28,10 +27,8 @@ pub fn all_within(row: &[i64], n: usize, most: u64) -> bool
     ensures { result ≡ checks.small most (firsts n row.now) }
 {
     let mut fine = true;
-    let mut j = 0;
-    while j < n {
-        fine = fine & within(row[j], most);
-        j += 1;
+    for j in 0..n {
+        fine &= within(row[j], most);
     }
     fine
 }
@@ -48,123 +45,127 @@ fn all_between(row: &[i64], least: i64, most: i64) -> bool
     ensures { result ≡ all (between least most) row.now }
 {
     let mut fine = true;
-    let mut j = 0;
-    while j < row.len() {
-        fine = fine & between(row[j], least, most);
-        j += 1;
+    for x in row {
+        fine &= between(*x, least, most);
     }
     fine
 }
 
-// The lowest place, counted from 1, of an entry that is not from `least` to `most`; 0 where each is.
-fn lowest_not_between(row: &[i64], least: i64, most: i64) -> u64
-    ensures { result ≡ lowest (between least most) row.now }
+// The lowest place, counted from 1, of an entry that is not from `least` to `most`. A row without one is only tested, which is
+// quicker.
+fn lowest_beyond(row: &[i64], least: i64, most: i64) -> Option<u64>
+    ensures { result ≡ found (lowest (between least most) row.now) }
 {
-    let mut place = 0;
-    let mut j = 0;
-    while j < row.len() {
-        place = places::lower(place, between(row[j], least, most), j);
-        j += 1;
+    if all_between(row, least, most) {
+        return None;
+    }
+    let mut place = None;
+    for (j, x) in row.iter().enumerate() {
+        place = places::lower(place, between(*x, least, most), j);
     }
     place
 }
 
-// The lowest place of an entry that is not within `most` of zero. A row without one is only tested, which is quicker.
-fn lowest_outside(row: &[i64], most: u64) -> u64
+// The lowest place of an entry that is not within `most` of zero.
+fn lowest_outside(row: &[i64], most: u64) -> Option<u64>
     requires { most ≤ 2 ^ 62 }
-    ensures { result ≡ lowest (rule.within most) row.now }
+    ensures { result ≡ found (lowest (rule.within most) row.now) }
 {
-    if all_within(row, row.len(), most) {
-        return 0;
-    }
     let top = most as i64;
-    lowest_not_between(row, 0 - top, top)
+    lowest_beyond(row, -top, top)
 }
 
-// The same as `lowest_not_between`. A row without a fault is only tested, which is quicker.
-fn lowest_beyond(row: &[i64], least: i64, most: i64) -> u64
-    ensures { result ≡ lowest (between least most) row.now }
+// 31, then 32: depths and heights.
+pub fn bed(h: &[i64], e: &[i64]) -> Result<(), rule::Refusal>
+    ensures { result ≡ met (chains.bed h.now e.now) }
 {
-    if all_between(row, least, most) {
-        return 0;
+    if let Some(place) = lowest_beyond(h, 1, rule::MOST_DEPTH) {
+        return Err(rule::Refusal::DepthValue(place));
     }
-    lowest_not_between(row, least, most)
+    if let Some(place) = lowest_outside(e, rule::MOST_HEIGHT) {
+        return Err(rule::Refusal::HeightValue(place));
+    }
+    Ok(())
 }
 
-// 31, then 32: depths and heights; or what follows.
-pub fn bed_or(h: &[i64], e: &[i64], rest: rule::Fault) -> rule::Fault
-    ensures { result ≡ or_fault 31 (lowest rule.depth_allowed h.now) (or_fault 32 (lowest (rule.within rule.most_height) e.now) rest) }
+// 33: velocities.
+pub fn velocities(u: &[i64]) -> Result<(), rule::Refusal>
+    ensures { result ≡ met (checks.each (rule.within rule.most_velocity) u.now VelocityValue) }
 {
-    let heights = places::or_fault(32, lowest_outside(e, rule::MOST_HEIGHT), rest);
-    places::or_fault(31, lowest_beyond(h, 1, rule::MOST_DEPTH), heights)
+    if let Some(place) = lowest_outside(u, rule::MOST_VELOCITY) {
+        return Err(rule::Refusal::VelocityValue(place));
+    }
+    Ok(())
 }
 
-// 33: velocities; or what follows.
-pub fn velocities_or(u: &[i64], rest: rule::Fault) -> rule::Fault
-    ensures { result ≡ or_fault 33 (lowest (rule.within rule.most_velocity) u.now) rest }
+// 34: reduced velocities.
+fn reduced(v: &[i64]) -> Result<(), rule::Refusal>
+    ensures { result ≡ met (checks.each (rule.within rule.most_reduced) v.now ReducedValue) }
 {
-    places::or_fault(33, lowest_outside(u, rule::MOST_VELOCITY), rest)
+    if let Some(place) = lowest_outside(v, rule::MOST_REDUCED) {
+        return Err(rule::Refusal::ReducedValue(place));
+    }
+    Ok(())
 }
 
-// 33, then 34: velocities and reduced velocities; or what follows.
-pub fn speeds_or(u: &[i64], v: &[i64], rest: rule::Fault) -> rule::Fault
-    ensures { result ≡ or_fault 33 (lowest (rule.within rule.most_velocity) u.now) (or_fault 34 (lowest (rule.within rule.most_reduced) v.now) rest) }
+// 33, then 34: velocities and reduced velocities.
+pub fn speeds(u: &[i64], v: &[i64]) -> Result<(), rule::Refusal>
+    ensures { result ≡ met (chains.speeds u.now v.now) }
 {
-    let reduced = places::or_fault(34, lowest_outside(v, rule::MOST_REDUCED), rest);
-    places::or_fault(33, lowest_outside(u, rule::MOST_VELOCITY), reduced)
+    velocities(u).and(reduced(v))
 }
 
 // The lowest place, among the m entries from `from` on, of one that is not within `most` of zero.
-fn lowest_from(row: &[i64], from: usize, m: usize, most: u64) -> u64
+fn lowest_from(row: &[i64], from: usize, m: usize, most: u64) -> Option<u64>
     requires { (from + m ≤ length row.now) × (most ≤ 2 ^ 62) }
-    ensures { result ≡ lowest (rule.within most) (take m (drop from row.now)) }
+    ensures { result ≡ found (lowest (rule.within most) (take m (drop from row.now))) }
 {
-    let to = from + m;
-    lowest_outside(&row[from..to], most)
+    lowest_outside(&row[from..from + m], most)
 }
 
-// One number for three levels of m entries, the newest first; or what follows.
-fn level_or(number: u64, row: &[i64], m: usize, most: u64, rest: rule::Fault) -> rule::Fault
+// The lowest place in the newest of three levels of m entries that has one.
+fn lowest_level(row: &[i64], m: usize, most: u64) -> Option<u64>
     requires { (length row.now ≡ 3 * m) × (most ≤ 2 ^ 62) }
-    ensures { result ≡ or_level number m (rule.within most) row.now rest }
+    ensures { result ≡ lowest_level m (rule.within most) row.now }
 {
-    let two = 2 * m;
-    let oldest = places::or_fault(number, lowest_from(row, two, m, most), rest);
-    let middle = places::or_fault(number, lowest_from(row, m, m, most), oldest);
-    places::or_fault(number, lowest_from(row, 0, m, most), middle)
+    let newest = lowest_from(row, 0, m, most);
+    let middle = lowest_from(row, m, m, most);
+    let oldest = lowest_from(row, 2 * m, m, most);
+    newest.or(middle).or(oldest)
 }
 
-// 35, then 36: the levels of flux and of acceleration; or what follows.
-pub fn levels_or(n: usize, q: &[i64], f: &[i64], rest: rule::Fault) -> rule::Fault
+// 35, then 36: the levels of flux and of acceleration.
+pub fn levels(n: usize, q: &[i64], f: &[i64]) -> Result<(), rule::Refusal>
     requires { (1 ≤ n) × ((length q.now ≡ 3 * (n - 1)) × (length f.now ≡ 3 * n)) }
-    ensures { result ≡ or_level 35 (n - 1) (rule.within rule.most_flux) q.now (or_level 36 n (rule.within rule.most_acceleration) f.now rest) }
+    ensures { result ≡ met (chains.levels n q.now f.now) }
 {
-    let accelerations = level_or(36, f, n, rule::MOST_ACCELERATION, rest);
-    level_or(35, q, n - 1, rule::MOST_FLUX, accelerations)
+    if let Some(place) = lowest_level(q, n - 1, rule::MOST_FLUX) {
+        return Err(rule::Refusal::FluxValue(place));
+    }
+    if let Some(place) = lowest_level(f, n, rule::MOST_ACCELERATION) {
+        return Err(rule::Refusal::AccelerationValue(place));
+    }
+    Ok(())
 }
 
 // 38: damping.
-pub fn damping(damping: &[i64]) -> rule::Fault
-    ensures { result ≡ fault_of (checks.each rule.damping_allowed damping.now DampingValue) }
+pub fn damping(damping: &[i64]) -> Result<(), rule::Refusal>
+    ensures { result ≡ met (checks.each rule.damping_allowed damping.now DampingValue) }
 {
-    let none = rule::Fault {
-        number: 0,
-        place: 0,
-    };
-    places::or_fault(38, lowest_beyond(damping, 0, rule::MOST_DAMPING), none)
+    if let Some(place) = lowest_beyond(damping, 0, rule::MOST_DAMPING) {
+        return Err(rule::Refusal::DampingValue(place));
+    }
+    Ok(())
 }
 
 // 37: the amounts of a row that is poured.
-pub fn poured(pours: bool, s: &[i64]) -> rule::Fault
-    ensures { result ≡ fault_of (checks.pourable (poured_rows pours s.now)) }
+pub fn poured(s: Option<&[i64]>) -> Result<(), rule::Refusal>
+    ensures { result ≡ met (checks.pourable (poured_rows s.entry)) }
 {
-    let none = rule::Fault {
-        number: 0,
-        place: 0,
-    };
-    if pours {
-        places::or_fault(37, lowest_outside(s, rule::MOST_POURED), none)
-    } else {
-        none
+    if let Some(row) = s {
+        if let Some(place) = lowest_outside(row, rule::MOST_POURED) {
+            return Err(rule::Refusal::PouredValue(place));
+        }
     }
+    Ok(())
 }

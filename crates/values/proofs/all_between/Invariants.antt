@@ -1,14 +1,9 @@
 -- `values::all_between` meets its contract: `fine` is the test of the entries passed. Assumes nothing.
 use mathlib.Core.Path.{◌≡◌}
-use Prim.Native.Nat.{◌-◌, ◌≤◌}
-use lib.ListN.{length}
 use Rattle.whole.specs.Row.{tab}
 use Rattle.rule.specs.Rows.{cell, all}
 use Rattle.values.specs.Between.{between}
 use Rattle.values.proofs.all_between.Given as goal
 
-abbrev pub invariant-loop-j : goal.invariant-loop-j
-invariant-loop-j l = (l.j ≤ length l.row) × (l.fine ≡ all (between l.least l.most) (tab l.j (cell l.row)))
-
-abbrev pub decreases-loop-j : goal.decreases-loop-j
-decreases-loop-j l = length l.row - l.j
+abbrev pub invariant-loop-x : goal.invariant-loop-x
+invariant-loop-x l = l.fine ≡ all (between l.least l.most) (tab l.x-index (cell l.row))

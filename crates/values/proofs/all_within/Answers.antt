@@ -12,17 +12,17 @@ use Rattle.rows.specs.Firsts.{firsts, all_and}
 use Rattle.values.proofs.all_within.Goals as goal
 
 pub loop-j-init : goal.loop-j-init
-loop-j-init c = (omega arith, sym (all_none (within c.args.most) (cell c.args.row.now)))
+loop-j-init c = sym (all_none (within c.args.most) (cell c.args.row.now))
 
 pub loop-j-preserved : goal.loop-j-preserved
 loop-j-preserved c =
     let p = within c.args.most in
     let f = cell c.args.row.now in
     let l = c.loop-j in
-    (omega arith, all_and p f l.j l.fine c.within-fine.result l.invariant.1 (c.within-fine.ensures ∙ ap p (to_z-of_z w64 (f l.j) (search rules))))
+    all_and p f l.j l.fine c.within-fine.result l.invariant (c.within-fine.ensures ∙ ap p (to_z-of_z w64 (f l.j) (search rules)))
 
 pub returns : goal.returns
 unfolding small
 returns c =
     let e : c.loop-j.j ≡ c.args.n = omega arith in
-    c.loop-j.invariant.1 ∙ ap (λ k. all (within c.args.most) (firsts k c.args.row.now)) e
+    c.loop-j.invariant ∙ ap (λ k. all (within c.args.most) (firsts k c.args.row.now)) e

@@ -1,13 +1,15 @@
 -- `values::poured` meets its contract. Assumes nothing.
-use mathlib.Core.Path.{◌∙◌, ap}
-use Rattle.places.specs.Faults.{or_fault, none}
-use Rattle.values.specs.Poured.{pours, pours_none}
+use mathlib.Core.Path.{◌∙◌, ap, refl}
+use Rattle.rule.specs.declared.Refusal.TheVariants.{PouredValue}
+use Rattle.places.specs.Met.{refusal_at}
+use Rattle.values.specs.Poured.{pours_met, pours_none}
 use Rattle.values.proofs.poured.Goals as goal
 
-pub returns-then-pours : goal.returns-then-pours
-returns-then-pours c =
-    let s = c.before.before.before.args.s.now in
-    rw c.before.before.if-pours.true (c.or_fault.ensures ∙ ap (λ k. or_fault 37 k none) c.before.lowest_outside.ensures ∙ pours s)
+pub returns-in-Some-lowest_outside : goal.returns-in-Some-lowest_outside
+returns-in-Some-lowest_outside c = rw c.in-Some.is (ap (refusal_at PouredValue) c.in-Some-lowest_outside.ensures ∙ pours_met c.in-Some.row)
 
-pub returns-else-pours : goal.returns-else-pours
-returns-else-pours c = rw c.if-pours.false pours_none
+pub returns-in_default-lowest_outside : goal.returns-in_default-lowest_outside
+returns-in_default-lowest_outside c = rw c.in-Some.is (ap (refusal_at PouredValue) c.in_default-lowest_outside.ensures ∙ pours_met c.in-Some.row)
+
+pub returns-in_default : goal.returns-in_default
+returns-in_default c = rw c.in_default.is pours_none
