@@ -3,7 +3,9 @@
 
 ghost use Rattle.std.specs.Prelude.{◌≡◌, ◌<◌, ◌≤◌, nat_abs};
 ghost use Rattle.whole.specs.Row.{tab};
-ghost use Rattle.rule.specs.Rows.{lowest};
+ghost use Rattle.rule.specs.declared.Refusal.TheVariants.{Dominance};
+ghost use Rattle.rule.specs.Refusals.{met};
+ghost use Rattle.rule.specs.Checks.{each};
 ghost use Rattle.rule.specs.Coefficients.{scale, beside, coefficients, dominant};
 ghost use Rattle.rule.specs.Ranges.{most_width, most_depth};
 ghost use Rattle.coefficients.specs.Ready.{Bed, Sized};
@@ -53,16 +55,17 @@ pub fn dominant(r: rule::Coefficients) -> bool
     r.a.unsigned_abs() + r.c.unsigned_abs() < r.b.unsigned_abs()
 }
 
-// The lowest cell, counted from 1, whose row is not dominant; 0 where every row is.
-pub fn lowest_not_dominant(n: usize, x: u64, h: &[i64]) -> u64
+// 5: every row is dominant, or the refusal of the lowest cell whose row is not.
+pub fn check(n: usize, x: u64, h: &[i64]) -> Result<(), rule::Refusal>
     requires { Bed n x h.now }
-    ensures { result ≡ lowest dominant (tab n (coefficients n x h.now)) }
+    ensures { result ≡ met (each dominant (tab n (coefficients n x h.now)) Dominance) }
 {
-    let mut place = 0;
-    let mut j = 0;
-    while j < n {
-        place = places::lower(place, dominant(coefficients(n, x, h, j)), j);
-        j += 1;
+    let mut lowest = None;
+    for j in 0..n {
+        lowest = places::lower(lowest, dominant(coefficients(n, x, h, j)), j);
     }
-    place
+    if let Some(place) = lowest {
+        return Err(rule::Refusal::Dominance(place));
+    }
+    Ok(())
 }

@@ -1,6 +1,6 @@
 -- Refusal numbers: the deepest of n cells is as deep as each of them, and one of them. Assumes nothing.
 use Prim.Native.Nat.{ℕ, zero, suc, ◌+◌, ◌*◌, ◌≤◌, ◌<◌}
-use Rattle.std.specs.Prelude.{◌≡◌, Bool, leb}
+use Rattle.std.specs.Prelude.{◌≡◌, Bool, leb, Ok, Err}
 use Rattle.std.specs.Ordering.{nat_cmp, ord_max}
 use Rattle.std.proofs.lemmas.Bool.Decides.{nat_tests}
 use Rattle.std.proofs.Math.Path.{refl, ap}
@@ -14,9 +14,9 @@ use Rattle.std.proofs.Math.IntN.{nat_abs}
 use Rattle.whole.specs.Row.{Within}
 use Rattle.rule.specs.Rows.{Row, cell}
 use Rattle.rule.specs.Ranges.{most_width, most_time, most_depth}
-use Rattle.rule.specs.Refusals.{require, number, place, number_of, place_of, fault_of}
+use Rattle.rule.specs.declared.Refusal.TheVariants.{TimeStep}
+use Rattle.rule.specs.Refusals.{require, met}
 use Rattle.rule.specs.Checks.{larger, deepest, timed}
-use Rattle.places.specs.Faults.{plain, none}
 
 -- the larger of two is as large as both, and no larger than what both are at most
 pub record Larger (a b : ℕ) : Type 0 where
@@ -112,10 +112,10 @@ module _ (n X T : ℕ) (h : Row) where
   abbrev right : ℕ
   right = 6_000_000 * (X * X)
 
-  pub timed_26 : right < left → plain 26 ≡ fault_of (timed n X T h)
-  unfolding timed require number place number_of place_of
+  pub timed_26 : right < left → Err TimeStep ≡ met (timed n X T h)
+  unfolding timed require met
   timed_26 l = rw (lt-leb left right l)
 
-  pub timed_0 : left ≤ right → none ≡ fault_of (timed n X T h)
-  unfolding timed require number_of place_of
+  pub timed_0 : left ≤ right → Ok tt ≡ met (timed n X T h)
+  unfolding timed require met
   timed_0 l = rw (le-leb left right l)

@@ -3,7 +3,7 @@
 
 ghost use Rattle.std.specs.Prelude.{◌≡◌};
 ghost use Rattle.rule.specs.Checks.{deepest, timed};
-ghost use Rattle.rule.specs.Refusals.{fault_of};
+ghost use Rattle.rule.specs.Refusals.{met};
 ghost use Rattle.pace.specs.Asked.{Depths, Measures};
 
 // The depth of the deepest of n cells.
@@ -18,19 +18,13 @@ pub fn deepest(n: usize, h: &[i64]) -> u64
     most
 }
 
-// 26 where the time step is too long for the deepest of n cells, or none.
-pub fn check(n: usize, x: u64, t: u64, h: &[i64]) -> rule::Fault
+// 26: the time step is not too long for the deepest of n cells.
+pub fn check(n: usize, x: u64, t: u64, h: &[i64]) -> Result<(), rule::Refusal>
     requires { Measures n x t h.now }
-    ensures { result ≡ fault_of (timed n x t h.now) }
+    ensures { result ≡ met (timed n x t h.now) }
 {
     if 9810 * deepest(n, h) * (t * t) > 6000000 * (x * x) {
-        return rule::Fault {
-            number: 26,
-            place: 0,
-        };
+        return Err(rule::Refusal::TimeStep);
     }
-    rule::Fault {
-        number: 0,
-        place: 0,
-    }
+    Ok(())
 }
