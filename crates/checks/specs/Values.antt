@@ -3,7 +3,6 @@ use Rattle.std.specs.Prelude.{◌≡◌, Bool, true, ◌&&◌, List, [], ◌∷�
 use Rattle.std.proofs.Math.Path.{refl, ap}
 use Rattle.std.proofs.Common.{sym, ◌∙◌}
 use Rattle.whole.specs.Tests.{and_yes, both}
-use Rattle.rule.specs.Refusals.{Fault}
 use Rattle.rule.specs.Rows.{Row, all, lowest}
 use Rattle.rule.specs.Ranges.{within, depth_allowed, most_height, most_velocity, most_reduced, most_flux, most_acceleration, damping_allowed, most_poured}
 use Rattle.rule.specs.Channel.{Channel, level_of}
@@ -11,9 +10,11 @@ use Rattle.rule.specs.declared.Refusal.{Refusal}
 use Rattle.rule.specs.declared.Refusal.TheVariants.{DepthValue, HeightValue, VelocityValue, ReducedValue, FluxValue, AccelerationValue, DampingValue, PouredValue}
 use Rattle.rule.specs.Refusals.{Outcome, done, ◌>>=◌, number_of, fault_of}
 use Rattle.rule.specs.Checks.{small, each, each_level, pourable}
-use Rattle.places.specs.Faults.{or_fault, each_then, depth_value, height_value, velocity_value, reduced_value, flux_value, acceleration_value}
-use Rattle.values.specs.Levels.{or_level, in_turn, level_then, level_all, levels_all}
-use Rattle.checks.specs.Numbers.{passed_each, passed_last, each_done, after_done, first_of, first_is}
+use Rattle.values.specs.Levels.{in_turn, level_all, levels_all}
+use Rattle.checks.specs.Numbers.{passed_each, passed_last, each_done, after_done}
+use Rattle.places.specs.Faults.{regroup}
+use Rattle.values.specs.Chains.{bed, speeds, levels}
+use Rattle.checks.specs.Pairs.{four_pairs}
 use Rattle.checks.specs.Facts.{values_allowed, levels_allowed}
 
 -- of what a channel is made from
@@ -25,13 +26,9 @@ given h e u damping =
     each damping_allowed damping DampingValue
 
 module _ (h e u damping : Row) where
-  pub given_fault : or_fault 31 (lowest depth_allowed h) (or_fault 32 (lowest (within most_height) e) (or_fault 33 (lowest (within most_velocity) u) (fault_of (each damping_allowed damping DampingValue)))) ≡ fault_of (given h e u damping)
+  pub given_pairs : (bed h e >>= λ _. (each (within most_velocity) u VelocityValue >>= λ _. each damping_allowed damping DampingValue)) ≡ given h e u damping
   unfolding given
-  given_fault =
-      each_then depth_allowed h 31 DepthValue depth_value _ _
-      (each_then (within most_height) e 32 HeightValue height_value _ _
-      (each_then (within most_velocity) u 33 VelocityValue velocity_value _ _
-      refl))
+  given_pairs = sym (regroup (each depth_allowed h DepthValue) (λ _. each (within most_height) e HeightValue) (λ _. each (within most_velocity) u VelocityValue >>= λ _. each damping_allowed damping DampingValue))
 
   pub given_passed : number_of (given h e u damping) ≡ 0 → (values_allowed h e u ≡ true) × (all damping_allowed damping ≡ true)
   unfolding given small each
@@ -95,27 +92,10 @@ module _ (c : Channel) (poured : List Row) where
       each damping_allowed c.damping DampingValue >>= λ _.
       pourable poured
 
-  -- the faults, as the code finds them
-  abbrev pub found : Fault
-  found =
-      or_fault 31 (lowest depth_allowed c.h)
-      (or_fault 32 (lowest (within most_height) c.e)
-      (or_fault 33 (lowest (within most_velocity) c.u)
-      (or_fault 34 (lowest (within most_reduced) c.v)
-      (or_level 35 (c.N - 1) (within most_flux) c.Q
-      (or_level 36 c.N (within most_acceleration) c.F
-      (first_of (fault_of (each damping_allowed c.damping DampingValue)) (fault_of (pourable poured))))))))
-
-  pub valued_fault : found ≡ fault_of valued
+  -- by pairs, as the code has them
+  pub valued_pairs : (bed c.h c.e >>= λ _. speeds c.u c.v >>= λ _. levels c.N c.Q c.F >>= λ _. (each damping_allowed c.damping DampingValue >>= λ _. pourable poured)) ≡ valued
   unfolding valued
-  valued_fault =
-      each_then depth_allowed c.h 31 DepthValue depth_value _ _
-      (each_then (within most_height) c.e 32 HeightValue height_value _ _
-      (each_then (within most_velocity) c.u 33 VelocityValue velocity_value _ _
-      (each_then (within most_reduced) c.v 34 ReducedValue reduced_value _ _
-      (level_then (c.N - 1) (within most_flux) c.Q FluxValue _ 35 flux_value _
-      (level_then c.N (within most_acceleration) c.F AccelerationValue _ 36 acceleration_value _
-      (first_is (each damping_allowed c.damping DampingValue) (λ _. pourable poured) _ _ refl refl))))))
+  valued_pairs = four_pairs _ _ _ _ _ _ _ _
 
   abbrev pub values_pass : Bool
   values_pass = values_allowed c.h c.e c.u && levels_allowed c.v c.Q c.F && all damping_allowed c.damping && all (small most_poured) poured

@@ -2,12 +2,17 @@
 use Rattle.std.specs.Prelude.{ℕ}
 use Rattle.rule.specs.declared.Counts.{Counts}
 use Rattle.rule.specs.declared.Left.{Left}
+use Rattle.rule.specs.declared.Lent.{Lent}
 use Rattle.rule.specs.Rows.{Row}
 use Rattle.rule.specs.Channel.{Channel, channel}
 use Rattle.rule.specs.Calls.{Called}
 
 abbrev pub counted : Counts → Row → Row → Row → Row → Row → Row → Row → Channel
 counted c h e u v Q F damping = channel c.n c.x c.t c.accepted c.wanted h e u v Q F damping
+
+-- of rows that are lent to be read
+abbrev pub lent : Lent → Channel
+lent c = counted c.counts c.h.now c.e.now c.u.now c.v.now c.q.now c.f.now c.damping.now
 
 -- the counts of a channel
 abbrev pub counts_of : Channel → Counts

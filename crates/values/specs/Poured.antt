@@ -1,6 +1,6 @@
 -- Refusal numbers, 37: the rows that a call pours, none or one. Assumes nothing.
 use Rattle.std.specs.Borrow.{Bor}
-use Rattle.std.specs.Prelude.{◌≡◌, refl, List, [], ◌∷◌, Option, None, Some, Ok, ℤ}
+use Rattle.std.specs.Prelude.{◌≡◌, refl, Bool, true, false, List, [], ◌∷◌, Option, None, Some, Ok, ℤ}
 use Rattle.std.proofs.Common.{◌∙◌}
 use Rattle.rule.specs.declared.Refusal.TheVariants.{PouredValue}
 use Rattle.rule.specs.Rows.{Row, lowest}
@@ -10,9 +10,14 @@ use Rattle.rule.specs.Checks.{each, pourable}
 use Rattle.places.specs.Lowest.{found}
 use Rattle.places.specs.Met.{refusal_at, each_met}
 
-abbrev pub poured_rows : Option (Bor (List ℤ)) → List Row
-poured_rows (Some s) = s.now ∷ []
-poured_rows None = []
+abbrev pub poured_rows : Bool → Row → List Row
+poured_rows true s = s ∷ []
+poured_rows false s = []
+
+-- as they are lent
+abbrev pub lent_rows : Option (Bor (List ℤ)) → List Row
+lent_rows (Some s) = s.now ∷ []
+lent_rows None = []
 
 -- a check that nothing follows
 alone : (m : Outcome (Unit {0})) → met m ≡ met (m >>= λ _. done tt)

@@ -12,7 +12,7 @@ ghost use Rattle.places.specs.Lowest.{found};
 ghost use Rattle.values.specs.Between.{between};
 ghost use Rattle.values.specs.Chains as chains;
 ghost use Rattle.values.specs.Levels.{lowest_level};
-ghost use Rattle.values.specs.Poured.{poured_rows};
+ghost use Rattle.values.specs.Poured.{lent_rows};
 
 // An entry is within `most` of zero.
 fn within(x: i64, most: u64) -> bool
@@ -160,7 +160,7 @@ pub fn damping(damping: &[i64]) -> Result<(), rule::Refusal>
 
 // 37: the amounts of a row that is poured.
 pub fn poured(s: Option<&[i64]>) -> Result<(), rule::Refusal>
-    ensures { result ≡ met (checks.pourable (poured_rows s.entry)) }
+    ensures { result ≡ met (checks.pourable (lent_rows s.entry)) }
 {
     if let Some(row) = s {
         if let Some(place) = lowest_outside(row, rule::MOST_POURED) {

@@ -7,10 +7,10 @@ use Rattle.rule.specs.Checks.{long}
 use Rattle.checks.specs.Tests.{and_true}
 use Rattle.checks.proofs.poured_shaped.Goals as goal
 
-pub returns-then-poured : goal.returns-then-poured
+pub returns-in-Some : goal.returns-in-Some
 unfolding long all
-returns-then-poured c = rw c.if-poured.true (sym (and_true (eqb (length c.before.args.s.now) c.before.args.n)))
+returns-in-Some c = rw c.in-Some.is (sym (and_true (eqb (length c.in-Some.s.now) c.args.n)))
 
-pub returns-else-poured : goal.returns-else-poured
+pub returns-in-None : goal.returns-in-None
 unfolding long all
-returns-else-poured c = rw c.if-poured.false
+returns-in-None c = rw c.in-None.is
