@@ -6,7 +6,7 @@ use Rattle.std.proofs.Math.Path.{refl}
 use Rattle.std.proofs.Math.Bool.{true, false}
 use Rattle.rule.specs.declared.Refusal.{Refusal}
 use Rattle.rule.specs.Rows.{all, lowest}
-use Rattle.rule.specs.Refusals.{Outcome, refused, done, ◌>>=◌, require, met, number, place, number_of, place_of, fault_of}
+use Rattle.rule.specs.Refusals.{Outcome, refused, done, ◌>>=◌, require, met, met_as, number, place, number_of, place_of, fault_of}
 use Rattle.rule.specs.Checks.{each}
 use Rattle.places.specs.Lowest.{found, found_none, lowest_none, lowest_some}
 use Rattle.places.specs.Faults.{told}
@@ -27,6 +27,32 @@ module _ {A : Type 0} where
   pub met_number : (m : Outcome A) (a : A) → Ok a ≡ met m → number_of m ≡ 0
   unfolding number_of
   met_number m a e = rw (met_done m a e)
+
+-- the same where the code keeps what is done in a form of its own
+module _ {A B : Type 0} (f : A → B) where
+  pub as_refused : (m : Outcome A) (r : Refusal) → Err r ≡ met_as f m → Err r ≡ met m
+  unfolding met met_as
+  as_refused (refused q k) r e = let z : r ≡ q = cc e in rw z
+  as_refused (done a) r e = cc e
+
+  pub record KeptAs (m : Outcome A) (b : B) : Type 0 where
+    pub result : A
+    pub is : m ≡ done result
+    pub kept : b ≡ f result
+
+  pub as_done : (m : Outcome A) (b : B) → Ok b ≡ met_as f m → KeptAs m b
+  unfolding met_as
+  as_done (refused r k) b e = cc e
+  as_done (done a) b e = record { result = a; is = refl; kept = cc e }
+
+  pub as_err : (m : Outcome A) (r : Refusal) → Err r ≡ met m → Err r ≡ met_as f m
+  unfolding met met_as
+  as_err (refused q k) r e = let z : r ≡ q = cc e in rw z
+  as_err (done a) r e = cc e
+
+  pub as_ok : (m : Outcome A) (a : A) → Ok a ≡ met m → Ok (f a) ≡ met_as f m
+  unfolding met_as
+  as_ok m a e = rw (met_done m a e)
 
 -- one after the other: the first refusal, or the rest
 pub err_first : {A B : Type 0} (m : Outcome A) (f : A → Outcome B) (r : Refusal) → Err r ≡ met m → Err r ≡ met (m >>= f)
