@@ -1,3 +1,4 @@
 pub mod Lowest
 pub mod Faults
 pub mod Met
+pub mod MetAs

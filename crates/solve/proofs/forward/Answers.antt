@@ -18,25 +18,22 @@ pub loop-j-init : goal.loop-j-init
 unfolding equations
 loop-j-init c =
     let s = c.args in
-    (omega arith, omega arith, swept_first s.n (rows s.n s.x s.h.now s.v.now) s.ratios.now s.sides.now c.row-first.result (omega arith) c.requires.1.0 c.requires.1.1 c.row-first.ensures)
+    swept_first s.n (rows s.n s.x s.h.now s.v.now) s.ratios.now s.sides.now c.row-first.result (omega arith) c.requires.1.0 c.requires.1.1 c.row-first.ensures
 
 pub returns-in_default : goal.returns-in_default
 unfolding equations
 returns-in_default c =
     let s = c.args in
-    let w = c.loop-j.invariant in
-    swept_stops s.n (rows s.n s.x s.h.now s.v.now) w.2 w.0 c.loop-j-test.true (sym c.in_default.is ∙ c.eliminate.ensures ∙ ap (λ r. eliminate r (Kept c.loop-j.ratio_before c.loop-j.side_before)) c.row-next.ensures)
+    swept_stops s.n (rows s.n s.x s.h.now s.v.now) c.loop-j.invariant c.loop-j.auto.j c.loop-j-test.true (sym c.in_default.is ∙ c.eliminate.ensures ∙ ap (λ r. eliminate r (Kept c.loop-j.ratio_before c.loop-j.side_before)) c.row-next.ensures)
 
 pub loop-j-preserved : goal.loop-j-preserved
 unfolding equations
 loop-j-preserved c =
     let s = c.args in
-    let w = c.loop-j.invariant in
-    (omega arith, omega arith, swept_next s.n (rows s.n s.x s.h.now s.v.now) w.2 w.0 _ _ c.loop-j-test.true c.requires.0.bed.most (sym c.in-Kept.is ∙ c.eliminate.ensures ∙ ap (λ r. eliminate r (Kept c.loop-j.ratio_before c.loop-j.side_before)) c.row-next.ensures))
+    swept_next s.n (rows s.n s.x s.h.now s.v.now) c.loop-j.invariant c.loop-j.auto.j _ _ c.loop-j-test.true c.requires.0.bed.most (sym c.in-Kept.is ∙ c.eliminate.ensures ∙ ap (λ r. eliminate r (Kept c.loop-j.ratio_before c.loop-j.side_before)) c.row-next.ensures)
 
 pub returns : goal.returns
 unfolding equations
 returns c =
     let s = c.args in
-    let w = c.loop-j.invariant in
-    swept_ends s.n (rows s.n s.x s.h.now s.v.now) w.2 w.0 c.loop-j-test.false
+    swept_ends s.n (rows s.n s.x s.h.now s.v.now) c.loop-j.invariant c.loop-j.auto.j c.loop-j-test.false

@@ -1,5 +1,4 @@
 -- `solve::rounded_row` meets its contract. Assumes nothing.
-use Prim.Native.Nat.{◌-◌, ◌≤◌}
 use lib.ListN.{get_or}
 use lib.Ieee.{nan}
 use Rattle.whole.specs.Row.{Filled}
@@ -7,7 +6,4 @@ use Rattle.rule.specs.Rounded.{rounded_float}
 use Rattle.solve.proofs.rounded_row.Given as goal
 
 abbrev pub invariant-loop-j : goal.invariant-loop-j
-invariant-loop-j l = (l.j ≤ l.n) × Filled (λ k. rounded_float (get_or l.answers k nan)) l.initial.row l.j l.row
-
-abbrev pub decreases-loop-j : goal.decreases-loop-j
-decreases-loop-j l = l.n - l.j
+invariant-loop-j l = Filled (λ k. rounded_float (get_or l.answers k nan)) l.initial.u-items l.j l.u-items
