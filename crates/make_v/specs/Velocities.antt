@@ -1,37 +1,30 @@
--- Making: V from u. What it asks and returns, V of a cell at the walls and between them, and the ways out. Assumes nothing.
-use Rattle.std.specs.Prelude.{ℕ, suc, ◌+◌, ◌-◌, ◌<◌, ◌≤◌, ◌≡◌, true, List, length, get_or, Float, pos}
+-- Making: V from u. What it asks, V of a cell at the walls and between them, and the ways out. Assumes nothing.
+use Rattle.std.specs.Prelude.{ℕ, suc, ◌+◌, ◌-◌, ◌<◌, ◌≤◌, ◌≡◌, refl, true, List, length, get_or, Float, pos, Ok, Err}
 use Rattle.std.proofs.Math.Path.{sym, ap}
 use Rattle.std.proofs.Common.{◌∙◌, add-one, arith, lit≤}
 use Rattle.std.proofs.Math.Bool.{false}
 use borrow.Author.Tests.{eq-eqb, ne_eqb}
 use Rattle.std.specs.Float.{nan}
-use Rattle.whole.specs.Row.{tab, tab_ext, fill_at, Filled, filled_end, filled_long, zeros, padded}
+use Rattle.whole.specs.Row.{tab, tab_ext, fill, length_fill, fill_at, padded}
 use Rattle.rule.specs.Rounded.{rounded_float}
 use Rattle.rule.specs.Rows.{Row, cell, map, all}
 use Rattle.rule.specs.Ranges.{most_reduced, most_cells}
 use Rattle.rule.specs.Floats.{whole, ◌⊕◌, ◌⊗◌, ◌⊘◌, within_float}
 use Rattle.rule.specs.declared.Refusal.TheVariants.{Speed}
-use Rattle.rule.specs.Refusals.{Outcome, number, number_of, require}
+use Rattle.rule.specs.Refusals.{done, require, met_as}
+use Rattle.places.specs.Met.{met_done}
+use Rattle.places.specs.MetAs.{met_requires, met_fails, done_as, err_first_as, ok_then_as}
 use Rattle.rule.specs.declared.Coefficients.{Coefficients}
 use Rattle.rule.specs.Coefficients.{scale, coefficients}
 use Rattle.rule.specs.Make.{reduced_velocity, reduced_velocities}
 use Rattle.coefficients.specs.Ready.{Bed}
 use Rattle.rows.specs.All.{all_fails}
 use Rattle.solve.specs.Sweeps.{floats}
-use Rattle.solve.specs.Solved.{Answered, answered, solved_of, refuses, passes, done_is}
-use Rattle.solve.specs.declared.Solved.{Solved}
-use Rattle.make_v.specs.declared.Velocities.{Velocities}
+use Rattle.solve.specs.Solved.{Answered, answered}
 
 pub record Given (n x : ℕ) (h u : Row) : Type 0 where
   pub bed : Bed n x h
   pub u_long : n ≤ length u
-
-abbrev of : Solved → Velocities
-of s = record { number = s.number; v = s.u }
-
--- the number and the row, as the solve has them
-unfoldable pub velocities_of : ℕ → Outcome Row → Velocities
-velocities_of n o = of (solved_of n o)
 
 module _ (n w : ℕ) (r : Coefficients) (u : Row) (j : ℕ) where
   abbrev left : Float
@@ -61,24 +54,26 @@ each n X h u j = reduced_velocity n (scale X) (coefficients n X h j) u j
 
 module _ (n X : ℕ) (h u : Row) where
   -- a V that is out of range
-  pub refused_7 : (j : ℕ) → j < n → within_float most_reduced (each n X h u j) ≡ false → record { number = 7; v = zeros } ≡ velocities_of n (reduced_velocities n X h u)
-  unfolding velocities_of reduced_velocities require number_of number
+  pub refused_7 : (j : ℕ) → j < n → within_float most_reduced (each n X h u j) ≡ false → Err Speed ≡ met_as (padded n) (reduced_velocities n X h u)
+  unfolding reduced_velocities
   refused_7 j l e =
-      let none : all (within_float most_reduced) (tab n (each n X h u)) ≡ false = all_fails (within_float most_reduced) (each n X h u) n j l e in
-      ap of (refuses n (all (within_float most_reduced) (tab n (each n X h u))) Speed 7 _ (rw none) (λ z. omega arith))
+      let b = all (within_float most_reduced) (tab n (each n X h u)) in
+      err_first_as (padded n) (require b Speed) _ Speed (met_fails b Speed (all_fails (within_float most_reduced) (each n X h u) n j l e))
 
-  module _ {j : ℕ} {before row : List Float} (m : n ≤ most_cells) (p : length before ≡ most_cells) (f : Filled (each n X h u) before j row) (a : j ≤ n) (b : n ≤ j) (i : all (within_float most_reduced) (tab j (each n X h u)) ≡ true) where
-    filled : floats n row ≡ tab n (each n X h u)
-    filled = tab_ext n (λ k. get_or row k nan) (each n X h u) (λ k l. ap (λ t. get_or t k nan) (filled_end f a b) ∙ fill_at n (each n X h u) before k nan l)
-
+  module _ (before : List Float) {row : List Float} {j : ℕ} (m : n ≤ most_cells) (p : length before ≡ most_cells) (f : row ≡ fill n (each n X h u) before) (d : j ≡ n) (i : all (within_float most_reduced) (tab j (each n X h u)) ≡ true) where
     in_range : all (within_float most_reduced) (tab n (each n X h u)) ≡ true
-    in_range = let e : n ≡ j = omega arith in ap (λ k. all (within_float most_reduced) (tab k (each n X h u))) e ∙ i
+    in_range = ap (λ k. all (within_float most_reduced) (tab k (each n X h u))) (sym d) ∙ i
+
+    filled : floats n row ≡ tab n (each n X h u)
+    filled = tab_ext n (λ k. get_or row k nan) (each n X h u) (λ k l. ap (λ t. get_or t k nan) f ∙ fill_at n (each n X h u) before k nan l)
 
     pub roundable : Answered n row
-    roundable = answered most_reduced n row (lit≤ tt) m (filled_long f (omega arith) ∙ p) (ap (all (within_float most_reduced)) filled ∙ in_range)
+    roundable = answered most_reduced n row (lit≤ tt) m (ap length f ∙ length_fill n (each n X h u) before (omega arith) ∙ p) (ap (all (within_float most_reduced)) filled ∙ in_range)
 
-    pub made : record { number = 0; v = padded n (map rounded_float (floats n row)) } ≡ velocities_of n (reduced_velocities n X h u)
-    unfolding velocities_of reduced_velocities
+    pub made : Ok (padded n (map rounded_float (floats n row))) ≡ met_as (padded n) (reduced_velocities n X h u)
+    unfolding reduced_velocities
     made =
-        ap (λ vs. record { number = 0; v = padded n (map rounded_float vs) }) filled
-        ∙ ap of (sym (done_is n (map rounded_float (tab n (each n X h u)))) ∙ sym (passes n (all (within_float most_reduced) (tab n (each n X h u))) Speed _ in_range))
+        let b = all (within_float most_reduced) (tab n (each n X h u)) in
+        ap (λ vs. Ok (padded n (map rounded_float vs))) filled
+        ∙ done_as (padded n) (done (map rounded_float (tab n (each n X h u)))) (map rounded_float (tab n (each n X h u))) refl
+        ∙ ok_then_as (padded n) (require b Speed) _ tt (met_done (require b Speed) tt (met_requires b Speed in_range))

@@ -2,11 +2,13 @@
 #![tactic(auto)]
 
 ghost use Rattle.std.specs.Prelude.{◌≡◌, ◌<◌, length};
+ghost use Rattle.whole.specs.Row.{padded};
 ghost use Rattle.rule.specs.Rows.{cell};
 ghost use Rattle.rule.specs.Floats.{whole, ◌⊗◌};
 ghost use Rattle.rule.specs.Coefficients.{scale, coefficients};
+ghost use Rattle.rule.specs.Refusals.{met_as};
 ghost use Rattle.rule.specs.Make.{reduced_velocity, reduced_velocities};
-ghost use Rattle.make_v.specs.Velocities.{Given, velocities_of};
+ghost use Rattle.make_v.specs.Velocities.{Given};
 
 // A coefficient times the velocity of cell j.
 fn term(k: i64, u: &[i64], j: usize) -> f64
@@ -34,32 +36,22 @@ fn reduced_velocity(n: usize, x: u64, h: &[i64], u: &[i64], j: usize) -> f64
     (left + middle + term(r.c, u, j + 1)) / w
 }
 
-// 0 and V of each cell; or refusal 7, and zeros.
-#[derive(Drop)]
-pub struct Velocities {
-    pub number: u64,
-    pub v: [i64; rule::MOST_CELLS],
-}
-
-pub fn reduced_velocities(n: usize, x: u64, h: &[i64], u: &[i64]) -> Velocities
+// V of each cell; or refusal 7.
+pub fn reduced_velocities(
+    n: usize,
+    x: u64,
+    h: &[i64],
+    u: &[i64],
+) -> Result<[i64; rule::MOST_CELLS], rule::Refusal>
     requires { Given n x h.now u.now }
-    ensures { result ≡ velocities_of n (reduced_velocities n x h.now u.now) }
+    ensures { result ≡ met_as (padded n) (reduced_velocities n x h.now u.now) }
 {
     let mut unrounded = [0.0; 256];
-    let mut j = 0;
-    while j < n {
-        let v = reduced_velocity(n, x, h, u, j);
-        if !round::within(v, rule::MOST_REDUCED) {
-            return Velocities {
-                number: 7,
-                v: [0; rule::MOST_CELLS],
-            };
+    for (j, v) in unrounded[..n].iter_mut().enumerate() {
+        *v = reduced_velocity(n, x, h, u, j);
+        if !round::within(*v, rule::MOST_REDUCED) {
+            return Err(rule::Refusal::Speed);
         }
-        unrounded[j] = v;
-        j += 1;
     }
-    Velocities {
-        number: 0,
-        v: solve::rounded_row(n, &unrounded),
-    }
+    Ok(solve::rounded_row(n, &unrounded))
 }

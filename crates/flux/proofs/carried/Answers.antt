@@ -1,45 +1,46 @@
 -- `flux::carried` meets its contract. Assumes nothing.
+use Prim.Native.Nat.{ℕ, ◌<◌}
 use mathlib.Core.Path.{sym, ◌∙◌, ap}
-use native.Mathlib.Omega.{arith}
 use lib.IntN.{pos}
 use Rattle.rule.specs.Ranges.{most_depth, most_height, most_velocity}
 use Rattle.whole.specs.Expr.{E, var, lit, add, mul, need, rd_is}
-use Rattle.whole.specs.Row.{filled_start, filled_step, filled_end, zeros, padded, fill_zeros}
-use Rattle.rule.specs.Rows.{cell}
+use Rattle.whole.specs.Row.{filled_start, filled_step, zeros, padded, fill_zeros}
+use Rattle.rows.specs.Firsts.{firsts_lt, filled_firsts}
+use Rattle.rule.specs.Rows.{Row, cell}
+use Rattle.dispersion.specs.Asked.{Carrying}
 use Rattle.dispersion.specs.Sizes.{carried_is}
 use Rattle.flux.proofs.carried.Goals as goal
-use Rattle.flux.proofs.carried.Goals.{In-loop-j}
 
--- the cell at hand: its bottom, its depth and what it carries
-module _ (c : In-loop-j) where
+-- a cell: its bottom, its depth and what it carries
+module _ {n : ℕ} {h e u : Row} (p : Carrying n h e u) (j : ℕ) (l : j < n) where
   abbrev bed : E
-  bed = let s = c.before.before in mul (lit (pos 1000)) (var (cell s.args.h.now c.before.loop-j.j) most_depth (s.requires.depths.small.at _ c.loop-j-test.true))
+  bed = mul (lit (pos 1000)) (var (cell h j) most_depth (p.depths.small.at j l))
 
   abbrev depth : E
-  depth = let s = c.before.before in add bed (var (cell s.args.e.now c.before.loop-j.j) most_height (s.requires.heights.small.at _ c.loop-j-test.true))
+  depth = add bed (var (cell e j) most_height (p.heights.small.at j l))
 
   abbrev value : E
-  value = let s = c.before.before in mul depth (var (cell s.args.u.now c.before.loop-j.j) most_velocity (s.requires.velocities.small.at _ c.loop-j-test.true))
+  value = mul depth (var (cell u j) most_velocity (p.velocities.small.at j l))
 
 pub loop-j-init : goal.loop-j-init
-loop-j-init c = (omega arith, filled_start _ _)
+loop-j-init c = filled_start _ _
 
-pub overflow_mul-row : goal.overflow_mul-row
-overflow_mul-row c = need (bed c.before) tt
+pub overflow_mul-p : goal.overflow_mul-p
+overflow_mul-p c = need (bed c.requires c.loop-j.j (firsts_lt _ c.loop-j-test.true)) tt
 
-pub overflow_add-row : goal.overflow_add-row
-overflow_add-row c = need (depth c.before.before) tt
+pub overflow_add-p : goal.overflow_add-p
+overflow_add-p c = need (depth c.requires c.loop-j.j (firsts_lt _ c.loop-j-test.true)) tt
 
-pub overflow_mul-row-in-loop-j : goal.overflow_mul-row-in-loop-j
-overflow_mul-row-in-loop-j c = need (value c.before.before.before) tt
+pub overflow_mul-p-in-loop-j : goal.overflow_mul-p-in-loop-j
+overflow_mul-p-in-loop-j c = need (value c.requires c.loop-j.j (firsts_lt _ c.loop-j-test.true)) tt
 
 pub loop-j-preserved : goal.loop-j-preserved
-loop-j-preserved c = let i = c.before.before.before in (omega arith, filled_step i.before.loop-j.invariant.1 (rd_is (value i) tt) (omega arith))
+loop-j-preserved c = filled_step c.loop-j.invariant (rd_is (value c.requires c.loop-j.j (firsts_lt _ c.loop-j-test.true)) tt) c.loop-j-test.true
 
 pub returns : goal.returns
 unfolding zeros
 returns c =
-    let a = c.before.before.args in
-    filled_end c.before.loop-j.invariant.1 c.before.loop-j.invariant.0 c.loop-j-test.false
+    let a = c.args in
+    filled_firsts _ c.loop-j.invariant c.requires.depths.most c.loop-j.auto.j-end c.loop-j-test.false
     ∙ fill_zeros _ _
     ∙ ap (padded a.n) (sym (carried_is a.n a.h.now a.e.now a.u.now))

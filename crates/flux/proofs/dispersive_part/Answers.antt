@@ -3,4 +3,4 @@ use Rattle.flux.proofs.Laws.{part_is}
 use Rattle.flux.proofs.dispersive_part.Goals as goal
 
 pub returns : goal.returns
-returns c = let s = c.before.before in part_is s.args.ms.now s.args.j
+returns c = part_is c.args.ms.now c.args.j

@@ -1,15 +1,15 @@
 -- `flux::faces` meets its contract: the faces passed are in range, and their Q in its place. Assumes nothing.
-use Prim.Native.Nat.{ℕ, ◌-◌, ◌<◌}
+use Prim.Native.Nat.{ℕ, ◌-◌, ◌<◌, ◌≤◌}
 use mathlib.Core.Path.{◌≡◌, sym, ◌∙◌, ap, subst}
 use mathlib.Core.Bool.{Bool, true}
-use native.Mathlib.Nat.{le_trans}
 use native.Mathlib.Omega.{arith}
 use lib.Dec.{T, lit≤}
 use lib.IntN.{ℤ, nat_abs}
 use lib.Ieee.{Float}
+use Rattle.std.specs.Prelude.{Ok}
 use mathlib.Core.List.{List}
 use Rattle.whole.specs.Expr.{E, res, add, need, rd_is}
-use Rattle.whole.specs.Row.{filled_start, filled_step, filled_end, zeros, fill_zeros}
+use Rattle.whole.specs.Row.{filled_start, filled_step, zeros, fill_zeros}
 use Rattle.rule.specs.Rounded.{rounded_float}
 use Rattle.rule.specs.Ranges.{most_flux}
 use Rattle.rule.specs.Floats.{within_float}
@@ -18,8 +18,8 @@ use Rattle.rule.specs.Flux.{plain_part, dispersive_part}
 use Rattle.round.specs.Sizes.{rounded_within}
 use Rattle.dispersion.specs.Asked.{Cells}
 use Rattle.flux.specs.Faces.{face_flux, passed_none, passed_more, part_outside, sum_outside, passed_all}
+use Rattle.rows.specs.Firsts.{firsts_lt, firsts_end, filled_firsts}
 use Rattle.dispersion.specs.Sizes.{plain_within}
-use Rattle.dispersion.proofs.Laws.{read_small}
 use Rattle.flux.proofs.faces.Goals as goal
 
 -- the test of the dispersive part
@@ -34,13 +34,12 @@ module _ (n : ℕ) (p : Row) (ms : List Float) (j : ℕ) (cells : Cells 1_000_00
       (res most_flux (b ∙ ap rounded_float d) (rounded_within most_flux (dispersive_part ms j) (lit≤ tt) inside))
 
 pub loop-j-init : goal.loop-j-init
-loop-j-init c = let s = c.args in (omega arith, filled_start _ _, passed_none s.n s.p.now s.ms.now)
+loop-j-init c = let s = c.args in record { filled = filled_start _ _; passed = passed_none s.n s.p.now s.ms.now }
 
 pub returns-then-not-within : goal.returns-then-not-within
-unfolding zeros
 returns-then-not-within c =
     let s = c.args in
-    part_outside s.n s.p.now s.ms.now c.loop-j-test.true (sym (tested s.ms.now c.loop-j.j c.within.ensures c.dispersive_part-part.ensures) ∙ c.if-not-within.true)
+    part_outside s.n s.p.now s.ms.now (firsts_lt _ c.loop-j-test.true) (sym (tested s.ms.now c.loop-j.j c.within.ensures c.dispersive_part-part.ensures) ∙ c.if-not-within.true)
 
 pub rounded_float-requires : goal.rounded_float-requires
 rounded_float-requires c = subst T (sym (sym c.within.ensures ∙ c.if-not-within.false)) tt
@@ -49,21 +48,15 @@ pub overflow_add-flux : goal.overflow_add-flux
 overflow_add-flux c =
     let s = c.args in
     let inside = sym (tested s.ms.now c.loop-j.j c.within.ensures c.dispersive_part-part.ensures) ∙ c.if-not-within.false in
-    need (Q s.n s.p.now s.ms.now c.loop-j.j c.requires.0 c.loop-j-test.true inside c.plain_part.ensures c.rounded_float.ensures c.dispersive_part-part.ensures) tt
+    need (Q s.n s.p.now s.ms.now c.loop-j.j c.requires.0 (firsts_lt _ c.loop-j-test.true) inside c.plain_part.ensures c.rounded_float.ensures c.dispersive_part-part.ensures) tt
 
-pub size-requires : goal.size-requires
-size-requires c =
+pub returns-then-unsigned_abs-gt-MOST_FLUX : goal.returns-then-unsigned_abs-gt-MOST_FLUX
+unfolding face_flux
+returns-then-unsigned_abs-gt-MOST_FLUX c =
     let s = c.args in
     let inside = sym (tested s.ms.now c.loop-j.j c.within.ensures c.dispersive_part-part.ensures) ∙ c.if-not-within.false in
-    le_trans (read_small (Q s.n s.p.now s.ms.now c.loop-j.j c.requires.0 c.loop-j-test.true inside c.plain_part.ensures c.rounded_float.ensures c.dispersive_part-part.ensures) tt) (lit≤ tt)
-
-pub returns-then-size-gt-MOST_FLUX : goal.returns-then-size-gt-MOST_FLUX
-unfolding zeros face_flux
-returns-then-size-gt-MOST_FLUX c =
-    let s = c.args in
-    let inside = sym (tested s.ms.now c.loop-j.j c.within.ensures c.dispersive_part-part.ensures) ∙ c.if-not-within.false in
-    let q = rd_is (Q s.n s.p.now s.ms.now c.loop-j.j c.requires.0 c.loop-j-test.true inside c.plain_part.ensures c.rounded_float.ensures c.dispersive_part-part.ensures) tt in
-    sum_outside s.n s.p.now s.ms.now c.loop-j-test.true (c.size.ensures ∙ ap nat_abs q) c.if-size-gt-MOST_FLUX.true
+    let q = rd_is (Q s.n s.p.now s.ms.now c.loop-j.j c.requires.0 (firsts_lt _ c.loop-j-test.true) inside c.plain_part.ensures c.rounded_float.ensures c.dispersive_part-part.ensures) tt in
+    sum_outside s.n s.p.now s.ms.now (firsts_lt _ c.loop-j-test.true) (c.unsigned_abs.ensures.value ∙ ap nat_abs q) c.if-unsigned_abs-gt-MOST_FLUX.true
 
 pub loop-j-preserved : goal.loop-j-preserved
 unfolding face_flux
@@ -71,13 +64,14 @@ loop-j-preserved c =
     let s = c.args in
     let w = c.loop-j.invariant in
     let inside = sym (tested s.ms.now c.loop-j.j c.within.ensures c.dispersive_part-part.ensures) ∙ c.if-not-within.false in
-    let q = rd_is (Q s.n s.p.now s.ms.now c.loop-j.j c.requires.0 c.loop-j-test.true inside c.plain_part.ensures c.rounded_float.ensures c.dispersive_part-part.ensures) tt in
-    (omega arith, filled_step w.1 q (omega arith), passed_more s.n s.p.now s.ms.now w.2 inside (c.size.ensures ∙ ap nat_abs q) c.if-size-gt-MOST_FLUX.false)
+    let q = rd_is (Q s.n s.p.now s.ms.now c.loop-j.j c.requires.0 (firsts_lt _ c.loop-j-test.true) inside c.plain_part.ensures c.rounded_float.ensures c.dispersive_part-part.ensures) tt in
+    record { filled = filled_step w.filled q c.loop-j-test.true; passed = passed_more s.n s.p.now s.ms.now w.passed inside (c.unsigned_abs.ensures.value ∙ ap nat_abs q) c.if-unsigned_abs-gt-MOST_FLUX.false }
 
 pub returns : goal.returns
 unfolding zeros
 returns c =
     let s = c.args in
     let w = c.loop-j.invariant in
-    ap (λ q. record { number = 0; q = q }) (filled_end w.1 w.0 c.loop-j-test.false ∙ fill_zeros _ _)
-    ∙ passed_all s.n s.p.now s.ms.now w.2 (omega arith)
+    let m : s.n - 1 ≤ 256 = omega (arith, c.requires.0.most) in
+    ap (λ q. Ok q) (filled_firsts _ w.filled m c.loop-j.auto.j-end c.loop-j-test.false ∙ fill_zeros _ _)
+    ∙ passed_all s.n s.p.now s.ms.now w.passed (firsts_end _ m c.loop-j.auto.j-end c.loop-j-test.false)

@@ -1,53 +1,43 @@
 -- `flux::fluxes` meets its contract: the arrays hold the rows of the rule. Assumes nothing.
+use Prim.Native.Nat.{ℕ, ◌-◌}
 use mathlib.Core.Path.{◌∙◌, ap}
 use native.Mathlib.Omega.{arith}
-use Rattle.whole.specs.Row.{zeros}
-use Rattle.dispersion.specs.Asked.{Carrying}
-use Rattle.flux.specs.Faces.{fluxes_of, arrays_is}
+use Rattle.whole.specs.Row.{zeros, padded}
+use Rattle.rule.specs.Rows.{Row}
+use Rattle.rule.specs.Refusals.{met_as}
+use Rattle.dispersion.specs.Asked.{Carrying, Ready}
+use Rattle.flux.specs.Faces.{arrays_is}
 use Rattle.dispersion.specs.Sizes.{level_cells, carried_cells}
 use Rattle.flux.proofs.fluxes.Goals as goal
-use Rattle.flux.proofs.fluxes.Goals.{After-carried, After-carried-2, Start}
-
--- where the water's own product was carried, and where the function started
-abbrev carries : After-carried-2 → After-carried
-carries b = b.before.before.before
-
-abbrev start : After-carried-2 → Start
-start b = (carries b).before
 
 -- what is carried over a level surface, and over the water's
-level : (s : Start) → Carrying s.args.n s.args.h.now zeros s.args.u.now
-level s = record { depths = s.requires.depths; heights = level_cells s.requires.depths; velocities = s.requires.moving.velocities }
+module _ {n x : ℕ} {h e u : Row} (r : Ready n x h e u) where
+  level : Carrying n h zeros u
+  level = record { depths = r.depths; heights = level_cells r.depths; velocities = r.moving.velocities }
 
-moving : (s : Start) → Carrying s.args.n s.args.h.now s.args.e.now s.args.u.now
-moving s = record { depths = s.requires.depths; heights = s.requires.moving.heights; velocities = s.requires.moving.velocities }
+  moving : Carrying n h e u
+  moving = record { depths = r.depths; heights = r.moving.heights; velocities = r.moving.velocities }
 
 pub carried-requires : goal.carried-requires
-carried-requires c = moving c
+carried-requires c = moving c.requires
 
 pub carried-requires-2 : goal.carried-requires-2
 unfolding zeros
-carried-requires-2 c = level c.before.before.before
+carried-requires-2 c = level c.requires
 
 pub cell_values-requires : goal.cell_values-requires
 unfolding zeros
 cell_values-requires c =
-    let s = start c.before in
-    record { wide = s.requires.moving.wide; depths = s.requires.depths; velocities = s.requires.moving.velocities; products = carried_cells c.before.carried-2.ensures (level s) }
+    let r = c.requires in
+    record { wide = r.moving.wide; depths = r.depths; velocities = r.moving.velocities; products = carried_cells c.carried-2.ensures (level r) }
 
 pub faces-requires : goal.faces-requires
-faces-requires c =
-    let b = c.before.before.before in
-    let s = start b in
-    (carried_cells (carries b).carried.ensures (moving s), omega (arith, s.requires.depths.most))
+faces-requires c = (carried_cells c.carried.ensures (moving c.requires), omega (arith, c.requires.depths.most))
 
 pub returns : goal.returns
 unfolding zeros
 returns c =
-    let m = c.before.before in
-    let b = m.before.before in
-    let p = carries b in
-    let s = start b in
+    let s = c.args in
     c.faces.ensures
-    ∙ ap (fluxes_of s.args.n)
-    (arrays_is s.args.n s.args.x s.args.h.now s.args.e.now s.args.u.now b.carried-2.result p.carried.result m.cell_values.result (omega (arith, s.requires.depths.least)) s.requires.depths.most b.carried-2.ensures m.cell_values.ensures p.carried.ensures)
+    ∙ ap (met_as (padded (s.n - 1)))
+    (arrays_is s.n s.x s.h.now s.e.now s.u.now c.carried-2.result c.carried.result c.cell_values.result (omega (arith, c.requires.depths.least)) c.requires.depths.most c.carried-2.ensures c.cell_values.ensures c.carried.ensures)

@@ -8,8 +8,6 @@ use Rattle.make_v.proofs.term.Goals as goal
 
 pub returns : goal.returns
 returns c =
-    let k = c.before.before in
-    let s = k.before in
-    let p = k.to_float.ensures ∙ read_back whole s.args.k s.ranges.k.sfits in
-    let q = c.to_float-2.ensures ∙ read_back whole (cell s.args.u.now s.args.j) (search rules) in
+    let p = c.to_float.ensures ∙ read_back whole c.args.k c.ranges.k.sfits in
+    let q = c.to_float-2.ensures ∙ read_back whole (cell c.args.u.now c.args.j) (search rules) in
     (λ t. p t ⊗ q t)
