@@ -6,9 +6,9 @@ use Rattle.std.proofs.Math.Path.{refl}
 use Rattle.std.proofs.Math.Bool.{true, false}
 use Rattle.rule.specs.declared.Refusal.{Refusal}
 use Rattle.rule.specs.Rows.{all, lowest}
-use Rattle.rule.specs.Refusals.{Outcome, refused, done, ◌>>=◌, require, met, met_as, number, place, number_of, place_of, fault_of}
+use Rattle.rule.specs.Refusals.{Outcome, refused, done, ◌>>=◌, require, met, met_as, number_of, place_of, fault_of}
 use Rattle.rule.specs.Checks.{each}
-use Rattle.places.specs.Lowest.{found, found_none, lowest_none, lowest_some}
+use Rattle.places.specs.Lowest.{found, found_none, lowest_some}
 use Rattle.places.specs.Faults.{told}
 
 module _ {A : Type 0} where

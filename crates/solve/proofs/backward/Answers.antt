@@ -1,6 +1,6 @@
 -- `solve::backward` meets its contract: at each turn the u of row j, stored with those after it. Assumes nothing.
 use native.Mathlib.Omega.{arith}
-use Rattle.places.specs.MetAs.{from_err}
+use Rattle.places.specs.Met.{from_err}
 use Rattle.solve.specs.Sweeps.{backed_none, backed_last, backed_stops, backed_up, backed_ends}
 use Rattle.solve.proofs.backward.Goals as goal
 

@@ -1,7 +1,7 @@
 -- `solve::solve` meets its contract: the three ways out of the sweeps. Assumes nothing.
 use mathlib.Core.Path.{◌∙◌, ap}
 use Rattle.std.specs.Prelude.{Ok}
-use Rattle.places.specs.MetAs.{from_err}
+use Rattle.places.specs.Met.{from_err}
 use Rattle.solve.specs.Solved.{unreduced, unanswered, answers_in, answer}
 use Rattle.solve.proofs.solve.Goals as goal
 
