@@ -1,13 +1,10 @@
 -- `form::form` meets its contract. Assumes nothing.
-use mathlib.Core.Path.{◌≡◌, sym, ◌∙◌}
+use mathlib.Core.Path.{sym, ◌∙◌}
 use native.Mathlib.Omega.{arith}
-use lib.ListN.{length}
-use Rattle.rule.specs.Layout.{length_of}
-use Rattle.rule.specs.File.{edition}
 use Rattle.layout.specs.Places.{head_within}
+use Rattle.rule.specs.File.{edition}
 use Rattle.form.specs.Reader.{form_12, form_14, form_0}
 use Rattle.form.proofs.form.Goals as goal
-use Rattle.form.proofs.form.Goals.{Else-s-length_of}
 
 pub returns-then-s-length_of : goal.returns-then-s-length_of
 returns-then-s-length_of c =
@@ -16,17 +13,14 @@ returns-then-s-length_of c =
 
 pub offsets_right-requires : goal.offsets_right-requires
 offsets_right-requires c =
-    let s = c in
-    (omega (arith, (let it : (let a = c.args in length a.s.now ≡ length_of edition a.n) = omega (arith, c.if-s-length_of.false, c.length_of.ensures) in it), head_within edition s.args.n), s.requires)
+    (omega (arith, c.if-s-length_of.false, c.length_of.ensures, head_within edition c.args.n), c.requires)
 
 pub returns-then-not-offsets_right : goal.returns-then-not-offsets_right
 returns-then-not-offsets_right c =
-    let e = c in
-    let a = e.args in
-    form_14 a.n a.s.now (let it : (let a = e.args in length a.s.now ≡ length_of edition a.n) = omega (arith, e.if-s-length_of.false, e.length_of.ensures) in it) (sym c.offsets_right.ensures ∙ c.if-not-offsets_right.true)
+    let a = c.args in
+    form_14 a.n a.s.now (omega (arith, c.if-s-length_of.false, c.length_of.ensures)) (sym c.offsets_right.ensures ∙ c.if-not-offsets_right.true)
 
 pub returns : goal.returns
 returns c =
-    let e = c in
-    let a = e.args in
-    form_0 a.n a.s.now (let it : (let a = e.args in length a.s.now ≡ length_of edition a.n) = omega (arith, e.if-s-length_of.false, e.length_of.ensures) in it) (sym c.offsets_right.ensures ∙ c.if-not-offsets_right.false)
+    let a = c.args in
+    form_0 a.n a.s.now (omega (arith, c.if-s-length_of.false, c.length_of.ensures)) (sym c.offsets_right.ensures ∙ c.if-not-offsets_right.false)
