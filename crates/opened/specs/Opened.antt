@@ -1,5 +1,5 @@
 -- The channel file: what the reader's fault says. At number 0 the file is right and holds a channel that passes the checks; any other is a refusal's, at stage 0. Assumes nothing.
-use Rattle.std.specs.Prelude.{ℕ, ◌≤◌, ◌≡◌, Bool, true, false, not, ◌&&◌, List, [], ◌∷◌, ltb, eqb, length}
+use Rattle.std.specs.Prelude.{ℕ, ◌≤◌, ◌≡◌, Bool, true, false, not, ◌&&◌, List, [], ◌∷◌, Ok, None, ltb, eqb, length}
 use Rattle.std.proofs.Math.Path.{refl, sym}
 use Rattle.std.proofs.Common.{◌∙◌, ap, eqb-true, ltb-false}
 use Rattle.std.proofs.lemmas.Bool.{not-true}
@@ -9,16 +9,17 @@ use Rattle.rule.specs.Ranges.{least_cells, most_cells, cells_allowed}
 use Rattle.rule.specs.Channel.{Channel}
 use Rattle.rule.specs.declared.Refusal.{Refusal}
 use Rattle.rule.specs.declared.Refusal.TheVariants.{Shape, FileLength, FileEdition, FileOffsets}
-use Rattle.rule.specs.Refusals.{Outcome, done, number_of, fault_of, number, ◌>>=◌, require}
+use Rattle.rule.specs.Refusals.{Outcome, done, number_of, fault_of, met_as, number, ◌>>=◌, require}
 use Rattle.rule.specs.Checks.{long, allowed, checked, shaped}
 use Rattle.rule.specs.Layout.{offsets, length_of}
 use Rattle.rule.specs.File.{edition, least_length, count_of, offsets_in, channel_of, read_with}
 use Rattle.rule.specs.Calls.{read, row_in, holds}
 use Rattle.checks.specs.Tests.{both, same_is}
-use Rattle.checks.specs.Numbers.{both_done, passed, passed_last, passes, after_done, done_of, numbered, Outside, refuses_then, refuses_test, Refused, refused_of_lem, Early}
+use Rattle.checks.specs.Numbers.{both_done, number_of_done, passed, passed_last, passes, after_done, done_of, numbered, Outside, refuses_then, refuses_test, Refused, refused_of_lem, Early}
+use Rattle.places.specs.Met.{as_done}
 use Rattle.checks.specs.Met.{allowed_outside}
 use Rattle.checks.specs.Facts.{cells_few}
-use Rattle.form.specs.Reader.{fits_in, head_tests, form_tests, shape_passes, body_tests, read_is}
+use Rattle.form.specs.Reader.{fits_in, fits_lent, rows_in, head_tests, form_tests, shape_passes, body_tests, read_is}
 use Rattle.opened.specs.Held.{shaped_held}
 
 -- 12, then 13
@@ -38,6 +39,11 @@ form_passed n s z =
 let_by : (b : Bool) (r : Refusal) → b ≡ true → require b r ≡ done tt
 unfolding require
 let_by b r e = rw e
+
+-- with nothing poured, as the code has it
+pub none_read : (s : List ℕ) → read_with (fits_lent None) (rows_in None) s ≡ read s
+unfolding read
+none_read s = refl
 
 -- with nothing poured it is the reader that is lent no rows, and with a row poured the one of a step over the file's bytes
 pub plain_read : (p s : List ℕ) → read_with (fits_in false p) [] s ≡ read s
@@ -95,6 +101,9 @@ module _ (fits : ℕ → Bool) (poured : List Row) (s : List ℕ) where
         poured_long = r.1;
         checked_0 = numbered (passes (shaped (channel_of s) poured) Shape (λ _. allowed (channel_of s) poured) (shaped_held s poured c.0 r.1)) ∙ f.1;
       }
+
+  pub taken_of : {u : Unit {0}} → Ok u ≡ met_as (λ _. tt) (read_with fits poured s) → Opened fits poured s
+  taken_of e = let d = as_done (λ _. tt) (read_with fits poured s) _ e in opened_of (sym (number_of_done _ d.result d.is))
 
   -- a refusal of a reader has stage 0
   pub read_outside : Outside (read_with fits poured s)

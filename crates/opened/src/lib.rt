@@ -5,19 +5,18 @@ ghost use Rattle.std.specs.Prelude.{◌≡◌, true, ◌≤◌, length};
 ghost use Rattle.rule.specs.Ranges.{most_cells};
 ghost use Rattle.rule.specs.Counted.{counted, counts_of};
 ghost use Rattle.rule.specs.File.{least_length, channel_of};
-ghost use Rattle.form.specs.Reader.{fits_in};
+ghost use Rattle.form.specs.Reader.{fits_lent};
 ghost use Rattle.opened.specs.Held.{poured_array};
 ghost use Rattle.opened.specs.Fitting.{CellsFit, LevelsFit, Opens};
 
 // The poured row in an array, and zeros where none is poured.
-pub fn poured_row(poured: bool, p: &[u8], n: usize) -> [i64; rule::MOST_CELLS]
-    requires { (n ≤ most_cells) × (fits_in poured p.now n ≡ true) }
-    ensures { result ≡ poured_array poured n p.now }
+pub fn poured_row(poured: Option<&[u8]>, n: usize) -> [i64; rule::MOST_CELLS]
+    requires { (n ≤ most_cells) × (fits_lent poured n ≡ true) }
+    ensures { result ≡ poured_array poured.entry n }
 {
-    if poured {
-        little::read_row::<i32>(p, 0, n)
-    } else {
-        [0; rule::MOST_CELLS]
+    match poured {
+        Some(p) => little::read_row::<i32>(p, 0, n),
+        None => [0; rule::MOST_CELLS],
     }
 }
 

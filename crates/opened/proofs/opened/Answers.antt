@@ -13,16 +13,11 @@ pub keep_cells-requires : goal.keep_cells-requires
 keep_cells-requires c = cells_fit c.requires
 
 pub keep_levels-requires : goal.keep_levels-requires
-keep_levels-requires c =
-    let k = c in
-    let s = k in
-    levels_fit s.requires _ (ap (λ (r : Counts). r.n) k.counts-c.ensures ∙ cells_is s.args.s.now)
+keep_levels-requires c = levels_fit c.requires _ (ap (λ (r : Counts). r.n) c.counts-c.ensures ∙ cells_is c.args.s.now)
 
 pub returns : goal.returns
 returns c =
-    let l = c in
-    let r = l in
-    let p = r.counts-c.ensures in
-    let q = r.keep_cells.ensures in
-    let t = l.keep_levels.ensures in
+    let p = c.counts-c.ensures in
+    let q = c.keep_cells.ensures in
+    let t = c.keep_levels.ensures in
     (λ i. counted (p i) (q.0 i) (q.1 i) (q.2 i) (q.3 i) (t.0 i) (t.1 i) (t.2 i))
