@@ -2,17 +2,16 @@
 #![tactic(auto)]
 
 ghost use Rattle.std.specs.Prelude.{◌≡◌};
-ghost use Rattle.rule.specs.Refusals.{fault_of};
+ghost use Rattle.rule.specs.Refusals.{met, met_as};
 ghost use Rattle.rule.specs.Checks.{checked};
 ghost use Rattle.rule.specs.File.{channel_of, read_with};
-ghost use Rattle.rule.specs.Calls.{row_in};
-ghost use Rattle.checks.specs.Allowed.{poured_rows};
-ghost use Rattle.answers.specs.Stages.{early};
-ghost use Rattle.form.specs.Reader.{fits_in, body_tests};
+ghost use Rattle.checks.specs.Allowed.{lent_rows};
+ghost use Rattle.answers.specs.Stages.{answer_of};
+ghost use Rattle.form.specs.Reader.{fits_lent, rows_in, body_tests};
 ghost use Rattle.opened.specs.Held.{Begun, Formed};
 ghost use Rattle.opened.specs.Fitting.{Opens};
 
-// The input checks of the channel of a file whose form is right, and of the row w where it is poured.
+// The input checks of the channel of a file whose form is right, and of the row that is poured.
 fn check_opened(
     s: &[u8],
     h: &mut [i64],
@@ -22,24 +21,34 @@ fn check_opened(
     q: &mut [i64],
     f: &mut [i64],
     damping: &mut [i64],
-    poured: bool,
-    w: &[i64],
-) -> rule::Fault
+    poured: Option<&[i64]>,
+) -> Result<(), rule::Refusal>
     requires { Opens s.now h.old e.old u.old v.old q.old f.old damping.old }
-    ensures { result ≡ fault_of (checked (channel_of s.now) (poured_rows poured w.now)) }
+    ensures { result ≡ met (checked (channel_of s.now) (lent_rows poured.entry)) }
 {
-    let c = opened::opened(s, h, e, u, v, q, f, damping);
-    checks::check(c, h, e, u, v, q, f, damping, poured, w)
+    let counts = opened::opened(s, h, e, u, v, q, f, damping);
+    checks::check(
+        rule::Lent {
+            counts,
+            h,
+            e,
+            u,
+            v,
+            q,
+            f,
+            damping,
+        },
+        poured,
+    )
 }
 
 // The input checks of the channel that a file of n cells holds, in rows of its own.
-fn values(s: &[u8], n: usize, poured: bool, p: &[u8]) -> rule::Fault
-    requires { Formed n poured s.now p.now }
-    ensures { result ≡ fault_of (checked (channel_of s.now) (poured_rows poured (row_in p.now))) }
+fn values(s: &[u8], n: usize, poured: Option<&[i64]>) -> Result<(), rule::Refusal>
+    requires { Formed n s.now }
+    ensures { result ≡ met (checked (channel_of s.now) (lent_rows poured.entry)) }
 {
     let faces = 3 * (n - 1);
     let cells = 3 * n;
-    let w = opened::poured_row(poured, p, n);
     let mut h = [0i64; rule::MOST_CELLS];
     let mut e = [0i64; rule::MOST_CELLS];
     let mut u = [0i64; rule::MOST_CELLS];
@@ -57,43 +66,39 @@ fn values(s: &[u8], n: usize, poured: bool, p: &[u8]) -> rule::Fault
         &mut f[..cells],
         &mut damping[..n],
         poured,
-        &w[..n],
     )
 }
 
 // 12, 14, then the input checks but 1, of a file of n cells.
-pub fn body(s: &[u8], n: usize, poured: bool, p: &[u8]) -> rule::Fault
-    requires { Begun n poured s.now p.now }
-    ensures { result ≡ fault_of (body_tests n (poured_rows poured (row_in p.now)) s.now) }
+pub fn body(s: &[u8], n: usize, poured: Option<&[u8]>) -> Result<(), rule::Refusal>
+    requires { Begun n poured s.now }
+    ensures { result ≡ met (body_tests n (rows_in poured.entry) s.now) }
 {
-    let fault = form::form(s, n);
-    if fault.number != 0 {
-        return fault;
+    form::form(s, n)?;
+    match poured {
+        Some(p) => {
+            let row = little::read_row::<i32>(p, 0, n);
+            values(s, n, Some(&row[..n]))
+        }
+        None => values(s, n, None),
     }
-    values(s, n, poured, p)
 }
 
-// The reader's fault for the file s, and for the poured row in the bytes p where one is poured: none, or the refusal's.
-pub fn check(s: &[u8], poured: bool, p: &[u8]) -> rule::Fault
-    ensures { result ≡ fault_of (read_with (fits_in poured p.now) (poured_rows poured (row_in p.now)) s.now) }
+// The reader's check of the file s, and of the poured row in the bytes lent where one is poured.
+pub fn check(s: &[u8], poured: Option<&[u8]>) -> Result<(), rule::Refusal>
+    ensures { result ≡ met_as (λ _. tt) (read_with (fits_lent poured.entry) (rows_in poured.entry) s.now) }
 {
-    let fault = form::head(s);
-    if fault.number != 0 {
-        return fault;
-    }
+    form::head(s)?;
     let n = little::count_at(s, 4) as usize;
-    if !form::shape_passes(n, poured, p) {
-        return rule::Fault {
-            number: 1,
-            place: 0,
-        };
+    if !form::shape_passes(n, poured) {
+        return Err(rule::Refusal::Shape);
     }
-    body(s, n, poured, p)
+    body(s, n, poured)
 }
 
 // The same as an answer.
-pub fn answer(s: &[u8], poured: bool, p: &[u8]) -> rule::Answer
-    ensures { result ≡ early (fault_of (read_with (fits_in poured p.now) (poured_rows poured (row_in p.now)) s.now)) }
+pub fn answer(s: &[u8], poured: Option<&[u8]>) -> rule::Answer
+    ensures { result ≡ answer_of (met_as (λ _. 0) (read_with (fits_lent poured.entry) (rows_in poured.entry) s.now)) }
 {
-    answers::refused(check(s, poured, p), 0)
+    answers::of(check(s, poured).and(Ok(0)))
 }
