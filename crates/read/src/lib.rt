@@ -2,38 +2,23 @@
 #![tactic(auto)]
 
 ghost use Rattle.std.specs.Prelude.{◌≡◌, []};
-ghost use Rattle.rule.specs.Counted.{counted};
-ghost use Rattle.rule.specs.Refusals.{fault_of};
+ghost use Rattle.rule.specs.Counted.{counted, lent};
+ghost use Rattle.rule.specs.Refusals.{met_as};
 ghost use Rattle.rule.specs.File.{read_with};
-ghost use Rattle.rule.specs.Calls.{read_call};
+ghost use Rattle.rule.specs.Calls.{fit, read_call};
 ghost use Rattle.little.specs.Numbers.{AreBytes};
-ghost use Rattle.read.specs.Left.{lent_fit, leaves_all};
+ghost use Rattle.read.specs.Left.{leaves_all};
 
-// The reader's fault for rows that are lent.
-fn check_lent(
-    s: &[u8],
-    h: &[i64],
-    e: &[i64],
-    u: &[i64],
-    v: &[i64],
-    q: &[i64],
-    f: &[i64],
-    damping: &[i64],
-) -> rule::Fault
-    ensures { result ≡ fault_of (read_with (lent_fit h.now e.now u.now v.now q.now f.now damping.now) [] s.now) }
+// The reader's check of the file s, and of the rows that are lent for what it holds. The counts that are lent say nothing of it.
+fn check_lent(s: &[u8], c: rule::Lent) -> Result<(), rule::Refusal>
+    ensures { result ≡ met_as (λ _. tt) (read_with (fit (lent c.entry)) [] s.now) }
 {
-    let fault = form::head(s);
-    if fault.number != 0 {
-        return fault;
+    form::head(s)?;
+    let counts = opened::counts(s);
+    if !checks::shaped(rule::Lent { counts, ..c }) {
+        return Err(rule::Refusal::Shape);
     }
-    let n = little::count_at(s, 4) as usize;
-    if !checks::shaped(n, h, e, u, v, q, f, damping) {
-        return rule::Fault {
-            number: 1,
-            place: 0,
-        };
-    }
-    reader::body(s, n, false, s)
+    reader::body(s, counts.n, None)
 }
 
 // What a reader leaves beside the rows: its answer, and the counts.
@@ -59,10 +44,19 @@ pub fn read(
     ensures damping_after { leaves_all result h.new e.new u.new v.new q.new f.new damping.new ≡ read_call (counted c h.old e.old u.old v.old q.old f.old damping.old) s.now }
     ensures are_bytes { AreBytes s.now }
 {
-    let fault = check_lent(s, h, e, u, v, q, f, damping);
-    if fault.number != 0 {
+    let lent = rule::Lent {
+        counts: c,
+        h,
+        e,
+        u,
+        v,
+        q,
+        f,
+        damping,
+    };
+    if let Err(refusal) = check_lent(s, lent) {
         return Reading {
-            answer: answers::refused(fault, 0),
+            answer: answers::refused(refusal, 0),
             counts: c,
         };
     }

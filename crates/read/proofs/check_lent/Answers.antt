@@ -1,52 +1,50 @@
 -- `read::check_lent` meets its contract: its ways out are the rule's. Assumes nothing.
-use mathlib.Core.Path.{◌≡◌, sym, ◌∙◌, ap}
-use mathlib.Core.Bool.{true}
+use mathlib.Core.Path.{refl, sym, ◌∙◌, ap}
 use mathlib.Core.List.{[]}
-use native.Mathlib.Omega.{arith}
-use Rattle.rule.specs.Ranges.{cells_allowed}
-use Rattle.rule.specs.Refusals.{fault_of}
-use Rattle.rule.specs.File.{count_of}
+use Rattle.rule.specs.declared.Counts.{Counts}
+use Rattle.rule.specs.Channel.{rows}
+use Rattle.rule.specs.Refusals.{met}
+use Rattle.rule.specs.Calls.{fit}
+use Rattle.rule.specs.Counted.{lent}
+use Rattle.places.specs.Met.{met_number, from_err}
 use Rattle.checks.specs.Tests.{both}
-use Rattle.checks.specs.Numbers.{numbered}
 use Rattle.checks.specs.Facts.{cells_few}
 use Rattle.form.specs.Reader.{shape_passes, body_tests, by_head, by_shape, by_body}
+use Rattle.opened.specs.Held.{cells_is}
 use Rattle.opened.specs.Opened.{head_passed}
-use Rattle.read.specs.Left.{lent_fit, lent_shape, none_poured}
+use Rattle.read.specs.Left.{lent_shape}
 use Rattle.read.proofs.check_lent.Goals as goal
-use Rattle.read.proofs.check_lent.Goals.{After-shaped, Else-fault-ne0, Else-not-shaped, Start}
 
-pub returns-then-fault-ne0 : goal.returns-then-fault-ne0
-returns-then-fault-ne0 c =
-    let s = c in
-    let e = c.head-fault.ensures in
-    e ∙ by_head (let a = s.args in lent_fit a.h.now a.e.now a.u.now a.v.now a.q.now a.f.now a.damping.now) [] s.args.s.now (λ z. c.if-fault-ne0.true (numbered e ∙ z))
+pub returns-in_err-head : goal.returns-in_err-head
+returns-in_err-head c =
+    from_err _ _ c.from_residual.ensures.1 ∙ by_head (fit (lent c.args.c)) [] c.args.s.now _ c.in_err-head.ensures
 
-pub count_at-n-requires : goal.count_at-n-requires
-count_at-n-requires c = omega (arith, head_passed c.args.s.now (sym (numbered c.head-fault.ensures) ∙ c.if-fault-ne0.false))
+pub counts-counts-requires : goal.counts-counts-requires
+counts-counts-requires c = (head_passed c.args.s.now (met_number _ _ c.in_ok-head.ensures)).0
 
 pub returns-then-not-shaped : goal.returns-then-not-shaped
-unfolding count_of
+unfolding rows
 returns-then-not-shaped c =
-    let s = c in
-    by_shape (let a = s.args in lent_fit a.h.now a.e.now a.u.now a.v.now a.q.now a.f.now a.damping.now) [] s.args.s.now (sym (numbered c.head-fault.ensures) ∙ c.if-fault-ne0.false) (sym (let a = c.args in c.shaped.ensures ∙ lent_shape a.h.now a.e.now a.u.now a.v.now a.q.now a.f.now a.damping.now c.count_at-n.result ∙ ap (shape_passes (lent_fit a.h.now a.e.now a.u.now a.v.now a.q.now a.f.now a.damping.now) []) (sym (sym c.count_at-n.ensures.0))) ∙ c.if-not-shaped.true)
+    let s = c.args.s.now in
+    let g = lent c.args.c in
+    let n = ap (λ (k : Counts). k.n) c.counts-counts.ensures ∙ cells_is s in
+    let is = c.shaped.ensures ∙ lent_shape g _ ∙ ap (shape_passes (fit g) []) n in
+    by_shape (fit g) [] s c.in_ok-head.ensures (sym is ∙ c.if-not-shaped.true)
 
 pub body-requires : goal.body-requires
-unfolding count_of
 body-requires c =
-    let few = cells_few _ (let it : cells_allowed c.count_at-n.result ≡ true = (both _ _ (sym c.shaped.ensures ∙ c.if-not-shaped.false)).0 in it) in
-    record {
-      head = (head_passed c.args.s.now (sym (numbered c.head-fault.ensures) ∙ c.if-fault-ne0.false)).0;
-      cells = (sym c.count_at-n.ensures.0);
-      least = few.0;
-      most = few.1;
-      fits = none_poured _ _;
-    }
+    let s = c.args.s.now in
+    let few = cells_few _ (both _ _ (sym c.shaped.ensures ∙ c.if-not-shaped.false)).0 in
+    let n = ap (λ (k : Counts). k.n) c.counts-counts.ensures ∙ cells_is s in
+    record { head = (head_passed s (met_number _ _ c.in_ok-head.ensures)).0; cells = sym n; least = few.0; most = few.1; fits = refl }
 
 pub returns : goal.returns
-unfolding count_of
+unfolding rows
 returns c =
-    let k = c in
-    let s = k in
+    let s = c.args.s.now in
+    let g = lent c.args.c in
+    let n = ap (λ (k : Counts). k.n) c.counts-counts.ensures ∙ cells_is s in
+    let is = c.shaped.ensures ∙ lent_shape g _ ∙ ap (shape_passes (fit g) []) n in
     c.body.ensures
-    ∙ ap (λ n. fault_of (body_tests n [] s.args.s.now)) (sym (sym k.count_at-n.ensures.0))
-    ∙ by_body (let a = s.args in lent_fit a.h.now a.e.now a.u.now a.v.now a.q.now a.f.now a.damping.now) [] s.args.s.now (sym (numbered k.head-fault.ensures) ∙ k.if-fault-ne0.false) (sym (let a = k.args in k.shaped.ensures ∙ lent_shape a.h.now a.e.now a.u.now a.v.now a.q.now a.f.now a.damping.now k.count_at-n.result ∙ ap (shape_passes (lent_fit a.h.now a.e.now a.u.now a.v.now a.q.now a.f.now a.damping.now) []) (sym (sym k.count_at-n.ensures.0))) ∙ c.if-not-shaped.false)
+    ∙ ap (λ m. met (body_tests m [] s)) n
+    ∙ by_body (fit g) [] s c.in_ok-head.ensures (sym is ∙ c.if-not-shaped.false)
