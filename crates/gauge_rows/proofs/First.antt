@@ -1,36 +1,31 @@
 -- `gauge_rows`: the lowest place that does not pass, where every place before it does. Assumes nothing.
-use Rattle.std.specs.Prelude.{Some, None}
-use Rattle.std.proofs.Common.{◌≡◌, ℕ, zero, suc, ◌+◌, ◌<◌, ◌-◌, Bool, true, false, ap, sym, ◌∙◌, add-one, ne_eqb, arith}
+use Rattle.std.specs.Prelude.{Some}
+use Rattle.std.proofs.Common.{◌≡◌, ℕ, zero, suc, ◌+◌, ◌<◌, ◌-◌, Bool, true, false, ap, sym, ◌∙◌, refl, arith}
 use Rattle.whole.specs.Row.{tab}
 use Rattle.rule.specs.Rows.{all, lowest}
-use Rattle.places.specs.Lowest.{lower, lower_more, lowest_none}
-use Rattle.gauge_rows.specs.Passes.{found}
+use Rattle.places.specs.Lowest.{found, lower_place, found_more, found_none}
 
-stays : (k n : ℕ) (passes : Bool) → lower (suc k) passes n ≡ suc k
-unfolding lower
-stays k n passes = rw (ne_eqb (suc k) 0 (λ z. omega (arith, z)))
+stays : (j k : ℕ) (passes : Bool) → Some j ≡ lower_place (Some j) passes k
+unfolding lower_place
+stays j k true = refl
+stays j k false = refl
 
 module _ {A : Type 0} (p : A → Bool) (f : ℕ → A) where
-  here : (k : ℕ) → all p (tab k f) ≡ true → p (f k) ≡ false → lowest p (tab (k + 1) f) ≡ suc k
-  unfolding lower
-  here k h e = sym (lower_more p f k) ∙ (λ i. lower (lowest_none p (tab k f) h i) (e i) k) ∙ add-one k
+  here : (k : ℕ) → all p (tab k f) ≡ true → p (f k) ≡ false → Some (k + 1) ≡ found (lowest p (tab (k + 1) f))
+  unfolding lower_place
+  here k h e = (λ i. lower_place (found_none p (tab k f) h i) (sym e i) k) ∙ found_more p f k
 
-  after : (k m : ℕ) → lowest p (tab (k + 1) f) ≡ suc k → lowest p (tab (m + (k + 1)) f) ≡ suc k
-  after k zero e = let z : 0 + (k + 1) ≡ k + 1 = omega arith in ap (λ n. lowest p (tab n f)) z ∙ e
+  after : (k m : ℕ) → Some (k + 1) ≡ found (lowest p (tab (k + 1) f)) → Some (k + 1) ≡ found (lowest p (tab (m + (k + 1)) f))
+  after k zero e = let z : k + 1 ≡ 0 + (k + 1) = omega arith in e ∙ ap (λ n. found (lowest p (tab n f))) z
   after k (suc m) e =
-      let z : suc m + (k + 1) ≡ m + (k + 1) + 1 = omega arith in
-      ap (λ n. lowest p (tab n f)) z
-      ∙ sym (lower_more p f (m + (k + 1)))
-      ∙ ap (λ place. lower place (p (f (m + (k + 1)))) (m + (k + 1))) (after k m e)
-      ∙ stays k (m + (k + 1)) (p (f (m + (k + 1))))
+      let n = m + (k + 1) in
+      let z : n + 1 ≡ suc m + (k + 1) = omega arith in
+      stays (k + 1) n (p (f n))
+      ∙ ap (λ place. lower_place place (p (f n)) n) (after k m e)
+      ∙ found_more p f n
+      ∙ ap (λ n. found (lowest p (tab n f))) z
 
   pub found_at : (n k : ℕ) → k < n → all p (tab k f) ≡ true → p (f k) ≡ false → Some (k + 1) ≡ found (lowest p (tab n f))
-  unfolding found
   found_at n k l h e =
-      let s : n - (k + 1) + (k + 1) ≡ n = omega arith in
-      let z : lowest p (tab n f) ≡ suc k = ap (λ n. lowest p (tab n f)) (sym s) ∙ after k (n - (k + 1)) (here k h e) in
-      ap (λ x. Some x) (add-one k) ∙ ap found (sym z)
-
-  pub found_none : (n : ℕ) → all p (tab n f) ≡ true → None ≡ found (lowest p (tab n f))
-  unfolding found
-  found_none n h = ap found (sym (lowest_none p (tab n f) h))
+      let z : n - (k + 1) + (k + 1) ≡ n = omega arith in
+      after k (n - (k + 1)) (here k h e) ∙ ap (λ n. found (lowest p (tab n f))) z

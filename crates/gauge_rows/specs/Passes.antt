@@ -1,5 +1,5 @@
--- "Gauges": what is asked of each place, and the lowest place that does not pass. Assumes nothing.
-use Rattle.std.specs.Prelude.{◌≡◌, ℕ, zero, suc, ◌<◌, Bool, Option, Some, None}
+-- "Gauges": what is asked of each place. Assumes nothing.
+use Rattle.std.specs.Prelude.{◌≡◌, ℕ, ◌<◌, Bool}
 use Rattle.rule.specs.Rows.{Row}
 use Rattle.gauge.specs.declared.Gauge.{Gauge}
 use Rattle.gauge.specs.State.{places, gauge_at}
@@ -7,8 +7,3 @@ use Rattle.gauge.specs.State.{places, gauge_at}
 -- of each gauge of a row a test answers what p does
 abbrev pub Tells : (Gauge → Bool → Type 0) → (Gauge → Bool) → Row → Type 0
 Tells answers p row = (k : ℕ) (passes : Bool) → k < places → answers (gauge_at row k) passes → passes ≡ p (gauge_at row k)
-
--- as the code has it: the place, or none
-unfoldable pub found : ℕ → Option ℕ
-found zero = None
-found (suc k) = Some (suc k)

@@ -5,7 +5,8 @@ use Rattle.rule.specs.Rows.{all}
 use Rattle.rows.specs.All.{all_none, all_more}
 use Rattle.gauge.specs.declared.Gauge.{Gauge}
 use Rattle.gauge.specs.State.{gauge_at, gauges_in}
-use Rattle.gauge_rows.proofs.First.{found_at, found_none}
+use Rattle.places.specs.Lowest.{found_none}
+use Rattle.gauge_rows.proofs.First.{found_at}
 use Rattle.gauge_rows.proofs.first_not.Goals as goal
 
 pub loop-k-init : goal.loop-k-init
@@ -30,4 +31,4 @@ pub returns : goal.returns
 unfolding gauges_in
 returns g c = λ p t.
     let e : c.loop-k.k ≡ 8 = omega arith in
-    found_none p (gauge_at c.args.row.now) 8 (ap (λ n. all p (tab n (gauge_at c.args.row.now))) (sym e) ∙ c.loop-k.invariant p t)
+    found_none p (tab 8 (gauge_at c.args.row.now)) (ap (λ n. all p (tab n (gauge_at c.args.row.now))) (sym e) ∙ c.loop-k.invariant p t)
