@@ -5,17 +5,19 @@ ghost use Rattle.std.specs.Prelude.{◌≡◌, Bool, [], ◌≤◌, pos, length}
 ghost use Rattle.rule.specs.Rows.{lowest};
 ghost use Rattle.whole.specs.Row.{Within};
 ghost use Rattle.rule.specs.Ranges.{most_cells, most_height};
-ghost use Rattle.rule.specs.Refusals.{fault_of};
+ghost use Rattle.rule.specs.Refusals.{met, met_as};
 ghost use Rattle.rule.specs.Calls.{called, plainly};
 ghost use Rattle.answers.specs.Stages.{leaves_bytes};
 ghost use Rattle.gauge.specs.declared.Gauge.{Gauge};
 ghost use Rattle.gauge.specs.Gauge.{gauge_of};
 ghost use Rattle.gauge.specs.State.{state_length, state_row, gauges_of, formed, free, placeable, placed, feedable, fed, readable};
 ghost use Rattle.gauge.specs.OnGauges.{read_state};
-ghost use Rattle.gauge_rows.specs.Passes.{Tells, found};
+ghost use Rattle.gauge_rows.specs.Passes.{Tells};
+ghost use Rattle.places.specs.Lowest.{found};
 ghost use Rattle.gauge_state.specs.Left.{leaves_row};
 
 use gauge::Gauge;
+use rule::Refusal;
 
 // How many numbers the places have, and how many bytes.
 pub const NUMBERS: usize = 64;
@@ -31,7 +33,7 @@ fn opened(gauges: &[u8]) -> [i64; NUMBERS]
     ensures { result ≡ state_row gauges.now }
 {
     let mut row = [0i64; NUMBERS];
-    little::keep_row::<i64>(gauges, 0, &mut row[..NUMBERS]);
+    little::keep_row::<i64>(gauges, 0, &mut row);
     row
 }
 
@@ -42,102 +44,54 @@ fn first_not<F: Fn(Gauge) -> bool>(gauges: &[u8], passes: F) -> Option<u64>
     ensures { (p : Gauge → Bool) → Tells (F.post passes) p (state_row gauges.now) → result ≡ found (lowest p (gauges_of gauges.now)) }
 {
     let row = opened(gauges);
-    gauge_rows::first_not(&row[..NUMBERS], passes)
+    gauge_rows::first_not(&row, passes)
 }
 
 // 12, then 14.
-fn form(gauges: &[u8]) -> rule::Fault
-    ensures { result ≡ fault_of (formed gauges.now) }
+fn formed(gauges: &[u8]) -> Result<(), Refusal>
+    ensures { result ≡ met (formed gauges.now) }
 {
     if gauges.len() != LENGTH {
-        return rule::Fault {
-            number: 12,
-            place: 0,
-        };
+        return Err(Refusal::GaugesLength);
     }
-    if first_not(gauges, Gauge::right).is_some() {
-        return rule::Fault {
-            number: 14,
-            place: 0,
-        };
-    }
-    rule::Fault {
-        number: 0,
-        place: 0,
-    }
+    places::require(
+        first_not(gauges, Gauge::right).is_none(),
+        Refusal::GaugesValue,
+    )
 }
 
-// Before a gauge is placed at a cell of n: those, then 20, then 21.
-fn place_fault(n: usize, cell: u64, gauges: &[u8]) -> rule::Fault
-    ensures { result ≡ fault_of (placeable n cell gauges.now) }
+// The place of a gauge that is placed at a cell of n, or those, then 20, then 21.
+fn placeable(n: usize, cell: u64, gauges: &[u8]) -> Result<u64, Refusal>
+    ensures { result ≡ met_as (λ _. free gauges.now) (placeable n cell gauges.now) }
 {
-    let fault = form(gauges);
-    if fault.number != 0 {
-        return fault;
-    }
-    if first_not(gauges, |g| !g.is_empty()).is_none() {
-        return rule::Fault {
-            number: 20,
-            place: 0,
-        };
-    }
-    if (1 <= cell) & (cell <= n as u64) {
-        return rule::Fault {
-            number: 0,
-            place: 0,
-        };
-    }
-    rule::Fault {
-        number: 21,
-        place: 0,
-    }
+    formed(gauges)?;
+    let free = first_not(gauges, |g| !g.is_empty()).ok_or(Refusal::NinthGauge)?;
+    places::require((1..=n as u64).contains(&cell), Refusal::OffChannel)?;
+    Ok(free)
 }
 
 // Before the gauges are fed the heights of n cells: 12, 14, then 21, then 30.
-fn feed_fault(n: usize, gauges: &[u8]) -> rule::Fault
+fn feedable(n: usize, gauges: &[u8]) -> Result<(), Refusal>
     requires { n ≤ most_cells }
-    ensures { result ≡ fault_of (feedable n gauges.now) }
+    ensures { result ≡ met (feedable n gauges.now) }
 {
-    let fault = form(gauges);
-    if fault.number != 0 {
-        return fault;
-    }
-    if first_not(gauges, |g| g.cell <= n as i64).is_some() {
-        return rule::Fault {
-            number: 21,
-            place: 0,
-        };
-    }
-    if first_not(gauges, |g| g.fed < gauge::MOST_FED).is_some() {
-        return rule::Fault {
-            number: 30,
-            place: 0,
-        };
-    }
-    rule::Fault {
-        number: 0,
-        place: 0,
-    }
+    formed(gauges)?;
+    places::require(
+        first_not(gauges, |g| g.cell <= n as i64).is_none(),
+        Refusal::OffChannel,
+    )?;
+    places::require(
+        first_not(gauges, |g| g.fed < gauge::MOST_FED).is_none(),
+        Refusal::GaugeFull,
+    )
 }
 
 // Before they are read into so many numbers: 12, 14, then 15.
-fn read_fault(gauges: &[u8], room: usize) -> rule::Fault
-    ensures { result ≡ fault_of (readable gauges.now room) }
+fn readable(gauges: &[u8], room: usize) -> Result<(), Refusal>
+    ensures { result ≡ met (readable gauges.now room) }
 {
-    let fault = form(gauges);
-    if fault.number != 0 {
-        return fault;
-    }
-    if room != READINGS {
-        return rule::Fault {
-            number: 15,
-            place: 0,
-        };
-    }
-    rule::Fault {
-        number: 0,
-        place: 0,
-    }
+    formed(gauges)?;
+    places::require(room == READINGS, Refusal::BufferLength)
 }
 
 // A gauge that was fed nothing.
@@ -156,16 +110,13 @@ pub fn place(n: usize, cell: u64, gauges: &mut [u8]) -> rule::Answer
     requires { n ≤ most_cells }
     ensures { leaves_bytes result gauges.new ≡ called gauges.old (λ _. free gauges.old) (λ t. t) (placed n cell gauges.old) }
 {
-    let fault = place_fault(n, cell, gauges);
-    if fault.number != 0 {
-        return answers::refused(fault, 0);
-    }
-    let mut row = opened(gauges);
-    let Some(free) = gauge_rows::first_not(&row[..NUMBERS], |g| !g.is_empty()) else {
-        unreachable!();
+    let free = match placeable(n, cell, gauges) {
+        Ok(free) => free,
+        Err(why) => return answers::refused(why, 0),
     };
-    gauge_rows::put_gauge(&mut row[..NUMBERS], 8 * (free as usize - 1), fresh(cell));
-    little::write_row::<i64>(gauges, 0, &row[..NUMBERS]);
+    let mut row = opened(gauges);
+    gauge_rows::put_gauge(&mut row, 8 * (free as usize - 1), fresh(cell));
+    little::write_row::<i64>(gauges, 0, &row);
     answers::accepted(free)
 }
 
@@ -174,14 +125,13 @@ pub fn feed(e: &[i64], gauges: &mut [u8]) -> rule::Answer
     requires { (length e.now ≤ most_cells) × Within most_height (length e.now) e.now }
     ensures { leaves_bytes result gauges.new ≡ plainly gauges.old (fed e.now gauges.old) }
 {
-    let fault = feed_fault(e.len(), gauges);
-    if fault.number != 0 {
-        return answers::refused(fault, 0);
+    if let Err(why) = feedable(e.len(), gauges) {
+        return answers::refused(why, 0);
     }
     let row = opened(gauges);
     let mut after = [0i64; NUMBERS];
-    gauge_rows::feed(e, &row[..NUMBERS], &mut after[..NUMBERS]);
-    little::write_row::<i64>(gauges, 0, &after[..NUMBERS]);
+    gauge_rows::feed(e, &row, &mut after);
+    little::write_row::<i64>(gauges, 0, &after);
     answers::accepted(0)
 }
 
@@ -189,11 +139,9 @@ pub fn feed(e: &[i64], gauges: &mut [u8]) -> rule::Answer
 pub fn read(gauges: &[u8], readings: &mut [i64]) -> rule::Answer
     ensures { leaves_row result readings.new ≡ read_state gauges.now readings.old }
 {
-    let fault = read_fault(gauges, readings.len());
-    if fault.number != 0 {
-        return answers::refused(fault, 0);
+    if let Err(why) = readable(gauges, readings.len()) {
+        return answers::refused(why, 0);
     }
-    let row = opened(gauges);
-    gauge_rows::read(&row[..NUMBERS], readings);
+    gauge_rows::read(&opened(gauges), readings);
     answers::accepted(0)
 }

@@ -3,7 +3,8 @@ use Rattle.std.proofs.Common.{Bool, sym, ◌∙◌, ap, subst}
 use Rattle.rule.specs.Rows.{lowest}
 use Rattle.gauge.specs.declared.Gauge.{Gauge}
 use Rattle.gauge.specs.State.{gauges_in, gauges_of}
-use Rattle.gauge_rows.specs.Passes.{Tells, found}
+use Rattle.gauge_rows.specs.Passes.{Tells}
+use Rattle.places.specs.Lowest.{found}
 use Rattle.gauge_state.proofs.first_not.Goals as goal
 
 pub returns : goal.returns

@@ -1,103 +1,81 @@
 -- `gauge_state::place` meets its contract. Assumes nothing.
-use Prim.Native.Nat.{◌*◌, ◌-◌, ◌≤◌}
-use mathlib.Core.Path.{◌≡◌, sym, ◌∙◌, ap}
-use mathlib.Core.List.{[]}
-use native.Mathlib.Omega.{arith}
-use borrow.Author.Rules.{rules}
-use lib.IntN.{pos}
-use lib.ListN.{length}
-use Rattle.rule.specs.Rows.{lowest}
-use Rattle.rule.specs.Refusals.{number_of}
+use Rattle.std.proofs.Common.{◌≡◌, ◌+◌, ◌*◌, ◌-◌, ◌≤◌, [], pos, length, ◌∙◌, ap, arith}
 use Rattle.rule.specs.Bytes.{row_bytes}
 use Rattle.answers.specs.Stages.{acceptance, leaves_bytes}
-use Rattle.checks.specs.Numbers.{numbered}
+use Rattle.places.specs.Met.{as_refused, as_done, met_refused}
+use Rattle.checks.specs.Numbers.{number_not_0, number_of_done}
 use Rattle.gauge.specs.Gauge.{gauge_of}
-use Rattle.gauge.specs.State.{state_length, state_numbers, numbers, gauges_in, gauges_of, state_row, placeable, taken, free}
-use Rattle.gauge_rows.specs.Passes.{found}
+use Rattle.gauge.specs.State.{state_length, state_numbers, numbers, state_row, placeable, free}
 use Rattle.little.specs.Written.{written}
 use Rattle.gauge_state.specs.Order.{form_passed, place_passed}
 use Rattle.gauge_state.specs.Done.{length_state, all_written, length_with, with_is, free_least, free_most, cell_most, place_refused, place_accepted}
-use Rattle.gauge_state.proofs.Search.{found_is, not_found}
 use Rattle.gauge_state.proofs.place.Goals as goal
 
-pub returns-then-fault-ne0 : goal.returns-then-fault-ne0
-returns-then-fault-ne0 c =
+pub returns-in-Err : goal.returns-in-Err
+returns-in-Err c =
     let a = c.args in
     ap (λ r. leaves_bytes r a.gauges.now) c.refused.ensures
-    ∙ place_refused a.n a.cell a.gauges.now c.place_fault-fault.result c.place_fault-fault.ensures c.if-fault-ne0.true
+    ∙ place_refused a.n a.cell a.gauges.now _ (met_refused _ _ (as_refused _ _ _ c.in-Err.ensures)) (number_not_0 c.in-Err.why)
 
 pub opened-row-requires : goal.opened-row-requires
 opened-row-requires c =
-    let passed : let a = c.args in number_of (placeable a.n a.cell a.gauges.now) ≡ 0 = sym (numbered c.place_fault-fault.ensures) ∙ c.if-fault-ne0.false in
-    let long : length c.args.gauges.now ≡ state_length = let a = c.args in (form_passed a.gauges.now (place_passed a.gauges.now a.n a.cell passed).0).0 in
-    long
-
-pub unreachable-requires : goal.unreachable-requires
-unfolding taken free gauges_of
-unreachable-requires c =
-    let passed : let a = c.args in number_of (placeable a.n a.cell a.gauges.now) ≡ 0 = sym (numbered c.place_fault-fault.ensures) ∙ c.if-fault-ne0.false in
-    let none : free c.args.gauges.now ≡ 0 = not_found _ (sym c.in_default.is ∙ c.first_not.ensures taken (λ k fine l e. search rules) ∙ ap (λ r. found (lowest taken (gauges_in r))) c.opened-row.ensures) in
-    let a = c.args in omega (arith, none, free_least a.n a.cell a.gauges.now passed)
+    let a = c.args in
+    let s = a.gauges.now in
+    let passed = number_of_done (placeable a.n a.cell s) _ (as_done _ _ _ c.in-Ok.ensures).is in
+    (form_passed s (place_passed s a.n a.cell passed).0).0
 
 pub overflow_sub-free : goal.overflow_sub-free
-unfolding taken free gauges_of
 overflow_sub-free c =
-    let passed : let a = c.args in number_of (placeable a.n a.cell a.gauges.now) ≡ 0 = sym (numbered c.place_fault-fault.ensures) ∙ c.if-fault-ne0.false in
-    let free_is : c.in-Some.free ≡ free c.args.gauges.now = found_is _ (sym c.in-Some.is ∙ c.first_not.ensures taken (λ k fine l e. search rules) ∙ ap (λ r. found (lowest taken (gauges_in r))) c.opened-row.ensures) in
-    let least : 1 ≤ c.in-Some.free = let a = c.args in omega (arith, free_is, free_least a.n a.cell a.gauges.now passed) in
-    least
+    let a = c.args in
+    let d = as_done _ (placeable a.n a.cell a.gauges.now) _ c.in-Ok.ensures in
+    omega (arith, d.kept, free_least a.n a.cell a.gauges.now (number_of_done _ _ d.is))
 
 pub overflow_mul-free : goal.overflow_mul-free
-unfolding taken free gauges_of
 overflow_mul-free c =
-    let free_is : c.in-Some.free ≡ free c.args.gauges.now = found_is _ (sym c.in-Some.is ∙ c.first_not.ensures taken (λ k fine l e. search rules) ∙ ap (λ r. found (lowest taken (gauges_in r))) c.opened-row.ensures) in
-    let most : c.in-Some.free ≤ 8 = omega (arith, free_is, free_most c.args.gauges.now) in
+    let kept : c.in-Ok.free ≡ free c.args.gauges.now = (as_done _ _ _ c.in-Ok.ensures).kept in
+    let most : c.in-Ok.free ≤ 8 = omega (arith, kept, free_most c.args.gauges.now) in
     record { fits = omega (arith, most) }
 
 pub fresh-requires : goal.fresh-requires
 fresh-requires c =
-    let passed : let a = c.args in number_of (placeable a.n a.cell a.gauges.now) ≡ 0 = sym (numbered c.place_fault-fault.ensures) ∙ c.if-fault-ne0.false in
-    omega (arith, c.requires, cell_most c.args.n c.args.cell c.args.gauges.now passed)
+    let a = c.args in
+    let d = as_done _ (placeable a.n a.cell a.gauges.now) _ c.in-Ok.ensures in
+    omega (arith, c.requires, cell_most a.n a.cell a.gauges.now (number_of_done _ _ d.is))
 
 pub put_gauge-requires : goal.put_gauge-requires
-unfolding taken free gauges_of
 put_gauge-requires c =
-    let passed : let a = c.args in number_of (placeable a.n a.cell a.gauges.now) ≡ 0 = sym (numbered c.place_fault-fault.ensures) ∙ c.if-fault-ne0.false in
-    let free_is : c.in-Some.free ≡ free c.args.gauges.now = found_is _ (sym c.in-Some.is ∙ c.first_not.ensures taken (λ k fine l e. search rules) ∙ ap (λ r. found (lowest taken (gauges_in r))) c.opened-row.ensures) in
-    let least : 1 ≤ c.in-Some.free = let a = c.args in omega (arith, free_is, free_least a.n a.cell a.gauges.now passed) in
-    let most : c.in-Some.free ≤ 8 = omega (arith, free_is, free_most c.args.gauges.now) in
-    let row_long : length c.opened-row.result ≡ state_numbers = ap length c.opened-row.ensures ∙ length_state c.args.gauges.now in
-    omega (arith, least, most, row_long)
+    let a = c.args in
+    let d = as_done _ (placeable a.n a.cell a.gauges.now) _ c.in-Ok.ensures in
+    let row_long : length c.opened-row.result ≡ state_numbers = ap length c.opened-row.ensures ∙ length_state a.gauges.now in
+    omega (arith, d.kept, free_least a.n a.cell a.gauges.now (number_of_done _ _ d.is), free_most a.gauges.now, row_long)
 
 pub write_row-requires : goal.write_row-requires
-unfolding taken free gauges_of
 write_row-requires c =
-    let passed : let a = c.args in number_of (placeable a.n a.cell a.gauges.now) ≡ 0 = sym (numbered c.place_fault-fault.ensures) ∙ c.if-fault-ne0.false in
-    let long : length c.args.gauges.now ≡ state_length = let a = c.args in (form_passed a.gauges.now (place_passed a.gauges.now a.n a.cell passed).0).0 in
-    let free_is : c.in-Some.free ≡ free c.args.gauges.now = found_is _ (sym c.in-Some.is ∙ c.first_not.ensures taken (λ k fine l e. search rules) ∙ ap (λ r. found (lowest taken (gauges_in r))) c.opened-row.ensures) in
-    let least : 1 ≤ c.in-Some.free = let a = c.args in omega (arith, free_is, free_least a.n a.cell a.gauges.now passed) in
-    let most : c.in-Some.free ≤ 8 = omega (arith, free_is, free_most c.args.gauges.now) in
-    let row_long : length c.opened-row.result ≡ state_numbers = ap length c.opened-row.ensures ∙ length_state c.args.gauges.now in
-    let written_long : length c.put_gauge.new.row ≡ state_numbers = ap length c.put_gauge.ensures ∙ length_with c.opened-row.result (8 * (c.in-Some.free - 1)) c.fresh.result (omega (arith, least, most, row_long)) ∙ row_long in
-    omega (arith, written_long, long)
-
-pub returns : goal.returns
-unfolding taken free gauges_of
-returns c =
-    let passed : let a = c.args in number_of (placeable a.n a.cell a.gauges.now) ≡ 0 = sym (numbered c.place_fault-fault.ensures) ∙ c.if-fault-ne0.false in
-    let long : length c.args.gauges.now ≡ state_length = let a = c.args in (form_passed a.gauges.now (place_passed a.gauges.now a.n a.cell passed).0).0 in
-    let free_is : c.in-Some.free ≡ free c.args.gauges.now = found_is _ (sym c.in-Some.is ∙ c.first_not.ensures taken (λ k fine l e. search rules) ∙ ap (λ r. found (lowest taken (gauges_in r))) c.opened-row.ensures) in
-    let least : 1 ≤ c.in-Some.free = let a = c.args in omega (arith, free_is, free_least a.n a.cell a.gauges.now passed) in
-    let most : c.in-Some.free ≤ 8 = omega (arith, free_is, free_most c.args.gauges.now) in
-    let row_long : length c.opened-row.result ≡ state_numbers = ap length c.opened-row.ensures ∙ length_state c.args.gauges.now in
-    let written_long : length c.put_gauge.new.row ≡ state_numbers = ap length c.put_gauge.ensures ∙ length_with c.opened-row.result (8 * (c.in-Some.free - 1)) c.fresh.result (omega (arith, least, most, row_long)) ∙ row_long in
     let a = c.args in
     let s = a.gauges.now in
-    let free = free_is in
+    let d = as_done _ (placeable a.n a.cell s) _ c.in-Ok.ensures in
+    let passed = number_of_done _ _ d.is in
+    let long : length s ≡ state_length = (form_passed s (place_passed s a.n a.cell passed).0).0 in
+    let row_long : length c.opened-row.result ≡ state_numbers = ap length c.opened-row.ensures ∙ length_state s in
+    let in_row : 8 * (c.in-Ok.free - 1) + 8 ≤ length c.opened-row.result = omega (arith, d.kept, free_least a.n a.cell s passed, free_most s, row_long) in
+    let written_long : length c.put_gauge.new.row ≡ state_numbers = ap length c.put_gauge.ensures ∙ length_with c.opened-row.result (8 * (c.in-Ok.free - 1)) c.fresh.result in_row ∙ row_long in
+    (omega (arith, written_long, long), λ i l. tt)
+
+pub returns : goal.returns
+returns c =
+    let a = c.args in
+    let s = a.gauges.now in
+    let left = c.write_row.new.d in
+    let d = as_done _ (placeable a.n a.cell s) _ c.in-Ok.ensures in
+    let passed = number_of_done _ _ d.is in
+    let long : length s ≡ state_length = (form_passed s (place_passed s a.n a.cell passed).0).0 in
+    let row_long : length c.opened-row.result ≡ state_numbers = ap length c.opened-row.ensures ∙ length_state s in
+    let in_row : 8 * (c.in-Ok.free - 1) + 8 ≤ length c.opened-row.result = omega (arith, d.kept, free_least a.n a.cell s passed, free_most s, row_long) in
+    let written_long : length c.put_gauge.new.row ≡ state_numbers = ap length c.put_gauge.ensures ∙ length_with c.opened-row.result (8 * (c.in-Ok.free - 1)) c.fresh.result in_row ∙ row_long in
     let row =
     c.put_gauge.ensures
-    ∙ (λ i. written (c.opened-row.ensures i) (8 * (free i - 1)) (numbers (c.fresh.ensures i)))
+    ∙ (λ i. written (c.opened-row.ensures i) (8 * (d.kept i - 1)) (numbers (c.fresh.ensures i)))
     ∙ with_is (state_row s) _ (gauge_of (pos a.cell) []) in
-    (λ i. leaves_bytes ((c.accepted.ensures ∙ ap acceptance free) i) c.write_row.new.d)
-    ∙ place_accepted a.n a.cell s c.write_row.new.d passed
-    (all_written s c.write_row.new.d c.put_gauge.new.row long written_long c.write_row.ensures ∙ ap (row_bytes 8) row)
+    (λ i. leaves_bytes ((c.accepted.ensures ∙ ap acceptance d.kept) i) left)
+    ∙ place_accepted a.n a.cell s left passed
+    (all_written s left c.put_gauge.new.row long written_long c.write_row.ensures ∙ ap (row_bytes 8) row)
