@@ -2,9 +2,22 @@
 #![tactic(auto)]
 
 ghost use Rattle.std.specs.Prelude.{◌≡◌};
-ghost use Rattle.rule.specs.Counted.{counted};
+ghost use Rattle.rule.specs.Counted.{counted, lent};
+ghost use Rattle.rule.specs.Refusals.{met_as};
+ghost use Rattle.rule.specs.File as rule;
 ghost use Rattle.rule.specs.Calls.{write_call};
 ghost use Rattle.answers.specs.Stages.{leaves_bytes};
+
+// The input checks, then 15: a buffer of `room` bytes is as long as the file of a channel that passes.
+fn fits(c: rule::Lent, room: usize) -> Result<(), rule::Refusal>
+    ensures { result ≡ met_as (λ _. tt) (rule.write (lent c.entry) room) }
+{
+    checks::check(c, None)?;
+    if room != layout::length_of(layout::EDITION, c.counts.n) {
+        return Err(rule::Refusal::BufferLength);
+    }
+    Ok(())
+}
 
 // A channel's file, written into a buffer of exactly its length. A refused call leaves the buffer as it was.
 pub fn write(
@@ -20,16 +33,18 @@ pub fn write(
 ) -> rule::Answer
     ensures { leaves_bytes result d.new ≡ write_call (counted c h.now e.now u.now v.now q.now f.now damping.now) d.old }
 {
-    let fault = checks::check(c, h, e, u, v, q, f, damping, false, h);
-    if fault.number != 0 {
-        return answers::refused(fault, 0);
-    }
-    if d.len() != layout::length_of(layout::EDITION, c.n) {
-        let unfit = rule::Fault {
-            number: 15,
-            place: 0,
-        };
-        return answers::refused(unfit, 0);
+    let lent = rule::Lent {
+        counts: c,
+        h,
+        e,
+        u,
+        v,
+        q,
+        f,
+        damping,
+    };
+    if let Err(refusal) = fits(lent, d.len()) {
+        return answers::refused(refusal, 0);
     }
     put::put(d, c, h, e, u, v, q, f, damping);
     answers::accepted(0)
