@@ -3,7 +3,7 @@
 
 ghost use Rattle.std.specs.Prelude.{◌≡◌, ◌&&◌, ◌≤◌};
 ghost use Rattle.rule.specs.Ranges.{cells_allowed, most_cells};
-ghost use Rattle.rule.specs.Refusals.{fault_of};
+ghost use Rattle.rule.specs.Refusals.{met};
 ghost use Rattle.rule.specs.Calls.{holds};
 ghost use Rattle.make_checks.specs.Order.{buffer_checked, tested};
 
@@ -19,24 +19,18 @@ pub fn shape_passes(n: u64, h: &[u8], e: &[u8], u: &[u8], damping: &[u8]) -> boo
     (h.len() == bytes) & (e.len() == bytes) & (u.len() == bytes) & (damping.len() == bytes)
 }
 
-// 15, or 0 where `room` is the length of a file of n cells.
-fn check_buffer(n: usize, room: usize) -> rule::Fault
+// 15: a buffer of `room` bytes is as long as a file of n cells.
+fn check_buffer(n: usize, room: usize) -> Result<(), rule::Refusal>
     requires { (1 ≤ n) × (n ≤ most_cells) }
-    ensures { result ≡ fault_of (buffer_checked n room) }
+    ensures { result ≡ met (buffer_checked n room) }
 {
     if room != layout::length_of(layout::EDITION, n) {
-        return rule::Fault {
-            number: 15,
-            place: 0,
-        };
+        return Err(rule::Refusal::BufferLength);
     }
-    rule::Fault {
-        number: 0,
-        place: 0,
-    }
+    Ok(())
 }
 
-// The input checks, then 15: none, or the fault of the first that fails.
+// The input checks, then 15: the first that fails, with its lowest place.
 pub fn check(
     c: rule::Counts,
     h: &[i64],
@@ -44,11 +38,11 @@ pub fn check(
     u: &[i64],
     damping: &[i64],
     room: usize,
-) -> rule::Fault
+) -> Result<(), rule::Refusal>
     requires { (1 ≤ c.n) × (c.n ≤ most_cells) }
-    ensures { result ≡ fault_of (tested c.n c.x c.t c.wanted h.now e.now u.now damping.now room) }
+    ensures { result ≡ met (tested c.n c.x c.t c.wanted h.now e.now u.now damping.now room) }
 {
     let input = checks::check_made(c, h, e, u, damping);
     let length = check_buffer(c.n, room);
-    checks::first_of(input, length)
+    input.and(length)
 }

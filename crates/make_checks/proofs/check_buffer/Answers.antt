@@ -4,13 +4,7 @@ use Rattle.make_checks.specs.Order.{buffer_15, buffer_0}
 use Rattle.make_checks.proofs.check_buffer.Goals as goal
 
 pub returns-then-room-length_of : goal.returns-then-room-length_of
-returns-then-room-length_of c =
-    let l = c in
-    let a = l.args in
-    buffer_15 a.n a.room (λ e. omega (arith, e, c.if-room-length_of.true, l.length_of.ensures))
+returns-then-room-length_of c = buffer_15 c.args.n c.args.room (λ e. omega (arith, e, c.if-room-length_of.true, c.length_of.ensures))
 
 pub returns : goal.returns
-returns c =
-    let l = c in
-    let a = l.args in
-    buffer_0 a.n a.room (omega (arith, c.if-room-length_of.false, l.length_of.ensures))
+returns c = buffer_0 c.args.n c.args.room (omega (arith, c.if-room-length_of.false, c.length_of.ensures))
