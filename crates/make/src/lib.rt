@@ -2,8 +2,21 @@
 #![tactic(auto)]
 
 ghost use Rattle.std.specs.Prelude.{◌≡◌};
-ghost use Rattle.rule.specs.Counted.{counted, left};
+ghost use Rattle.rule.specs.Counted.{counted, left, lent};
+ghost use Rattle.rule.specs.Refusals.{met_as};
 ghost use Rattle.rule.specs.Calls.{make_call};
+ghost use Rattle.work_out.specs.Made.{made_of};
+ghost use Rattle.make.specs.Left.{fitted};
+
+// What is made on lent rows that have the lengths of a channel of n cells; or the first refusal.
+fn made(c: rule::Lent) -> Result<work_out::Made, rule::Refusal>
+    ensures { result ≡ met_as (made_of c.entry.counts.n) (fitted (lent c.entry)) }
+{
+    if !checks::shaped(c) {
+        return Err(rule::Refusal::Shape);
+    }
+    work_out::work_out(c.counts, c.h, c.e, c.u, c.damping)
+}
 
 // Of the lent rows h, e, u and damping are read, the others are filled; no step of what is made is accepted. A refused call leaves them
 // all, and the count of accepted steps, as they were.
@@ -19,33 +32,29 @@ pub fn make(
 ) -> rule::Left
     ensures { left c result h.now e.now u.now v.new q.new f.new damping.now ≡ make_call (counted c h.now e.now u.now v.old q.old f.old damping.now) }
 {
-    if !checks::shaped(c.n, h, e, u, v, q, f, damping) {
-        let unfit = rule::Fault {
-            number: 1,
-            place: 0,
-        };
-        return rule::Left {
-            answer: answers::refused(unfit, 0),
+    match made(rule::Lent {
+        counts: c,
+        h,
+        e,
+        u,
+        v,
+        q,
+        f,
+        damping,
+    }) {
+        Ok(made) => {
+            let faces = c.n - 1;
+            store::renew(v, c.n, &made.v);
+            store::fill(q, faces, &made.q);
+            store::fill(f, c.n, &made.f);
+            rule::Left {
+                answer: answers::accepted(0),
+                accepted: 0,
+            }
+        }
+        Err(why) => rule::Left {
+            answer: answers::refused(why, 0),
             accepted: c.accepted,
-        };
-    }
-    let made = work_out::work_out(c, h, e, u, damping);
-    let fault = made.fault;
-    if fault.number != 0 {
-        return rule::Left {
-            answer: answers::refused(fault, 0),
-            accepted: c.accepted,
-        };
-    }
-    let new_v = made.v;
-    let new_q = made.q;
-    let new_f = made.f;
-    let faces = c.n - 1;
-    store::renew(v, c.n, &new_v);
-    store::fill(q, faces, &new_q);
-    store::fill(f, c.n, &new_f);
-    rule::Left {
-        answer: answers::accepted(0),
-        accepted: 0,
+        },
     }
 }
