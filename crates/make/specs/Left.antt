@@ -7,6 +7,9 @@ use Rattle.rule.specs.Rounded.{rounded_float}
 use Rattle.rule.specs.Rows.{Row}
 use Rattle.rule.specs.Ranges.{cells_allowed, most_cells}
 use Rattle.rule.specs.Channel.{Channel, moved, channel, filled, renewed, rows}
+use Rattle.rule.specs.declared.Answer.{Answer}
+use Rattle.rule.specs.declared.Counts.{Counts}
+use Rattle.rule.specs.declared.Left.{Left}
 use Rattle.rule.specs.declared.Refusal.{Refusal}
 use Rattle.rule.specs.declared.Refusal.TheVariants.{Shape, Speed, Flux}
 use Rattle.rule.specs.Refusals.{number, Outcome, refused, done, number_of, ◌>>=◌, require, met_as}
@@ -29,6 +32,15 @@ use Rattle.answers.specs.Stages.{leaves, early, acceptance, refused_met, accepte
 use Rattle.store.specs.Levels.{renewed_all}
 use Rattle.work_out.specs.declared.Made.{Made}
 use Rattle.work_out.specs.Made.{made_of, rows_of, rows_kept, whole_of}
+
+-- of a call that counts nothing, its answer; and with the count of accepted steps that make leaves
+abbrev pub answer_by : Result (Unit {0}) Refusal → Answer
+answer_by (Ok a) = acceptance 0
+answer_by (Err r) = early (told r)
+
+abbrev pub left_by : Counts → Result (Unit {0}) Refusal → Left
+left_by c (Ok a) = record { answer = acceptance 0; accepted = 0 }
+left_by c (Err r) = record { answer = early (told r); accepted = c.accepted }
 
 -- what make makes of a channel whose rows are lent
 unfoldable pub fitted : Channel → Outcome Channel
