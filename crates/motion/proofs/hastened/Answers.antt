@@ -12,19 +12,19 @@ use Rattle.motion.proofs.hastened.Goals as goal
 use Rattle.motion.proofs.hastened.Goals.{After-added}
 
 -- what is added in the cell at hand
-added_is : (c : After-added) → c.added.result ≡ gain c.args.corrects c.args.accepted c.args.n c.args.t c.args.v.now c.args.trial.now c.args.levels.now c.loop-j.j
+added_is : (c : After-added) → c.added.result ≡ gain c.args.stage c.args.accepted c.args.n c.args.t c.args.v.now c.args.trial.now c.args.levels.now c.loop-j.j
 added_is c =
     let a = c.args in
     c.added.ensures
     ∙ (λ z. rounded (carried (c.weights-table.ensures z) a.t a.n a.trial.now a.levels.now c.loop-j.j) (1000 * c.over-d.ensures z))
-    ∙ ap (λ z. rounded z (1000 * over_of a.corrects)) (carried_is most_acceleration a.n a.trial.now a.levels.now c.requires.accelerations c.loop-j.j c.loop-j-test.true a.corrects a.accepted a.t)
+    ∙ ap (λ z. rounded z (1000 * over_of a.stage)) (carried_is most_acceleration a.n a.trial.now a.levels.now c.requires.accelerations c.loop-j.j c.loop-j-test.true a.stage a.accepted a.t)
 
 abbrev value : After-added → E
 value c =
     let a = c.args in
     let j = c.loop-j.j in
     add (var (cell a.v.now j) most_reduced (c.requires.small.at j c.loop-j-test.true))
-    (res 36_666_666_667 (added_is c) (gain_within a.corrects a.accepted a.n a.t a.v.now a.trial.now a.levels.now c.requires j c.loop-j-test.true))
+    (res 36_666_666_667 (added_is c) (gain_within a.stage a.accepted a.n a.t a.v.now a.trial.now a.levels.now c.requires j c.loop-j-test.true))
 
 pub loop-j-init : goal.loop-j-init
 loop-j-init c = filled_start _ _
@@ -32,12 +32,12 @@ loop-j-init c = filled_start _ _
 pub added-requires : goal.added-requires
 added-requires c =
     record {
-      table_four = rw c.weights-table.ensures (four_of c.args.corrects c.args.accepted);
+      table_four = rw c.weights-table.ensures (four_of c.args.stage c.args.accepted);
       levels = levels_more (lit≤ tt) c.requires.accelerations;
       place = c.loop-j-test.true;
       brief = c.requires.brief;
-      some = omega (arith, c.over-d.ensures, over_some c.args.corrects);
-      most = omega (arith, c.over-d.ensures, over_most c.args.corrects);
+      some = omega (arith, c.over-d.ensures, over_some c.args.stage);
+      most = omega (arith, c.over-d.ensures, over_most c.args.stage);
     }
 
 pub overflow_add-row : goal.overflow_add-row

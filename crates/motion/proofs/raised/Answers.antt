@@ -16,36 +16,36 @@ use Rattle.motion.proofs.raised.Goals.{After-crossing-a, After-rounded-w}
 
 -- what crosses each face between two cells, not yet divided
 abbrev flow : After-crossing-a → ℕ → ℤ
-flow c = let a = c.args in weighted a.t (weights_of a.corrects a.accepted) (a.n - 1) (levels_of a.corrects (a.n - 1) a.trial.now a.levels.now)
+flow c = let a = c.args in weighted a.t (weights_of a.stage a.accepted) (a.n - 1) (levels_of a.stage (a.n - 1) a.trial.now a.levels.now)
 
 crossing_is : (c : After-crossing-a) → c.crossing-a.result ≡ inner (c.args.n - 1) (flow c) c.loop-j.j
 crossing_is c =
     let a = c.args in
     c.crossing-a.ensures
     ∙ ap (λ table. inner (a.n - 1) (carried table a.t (a.n - 1) a.trial.now a.levels.now) c.loop-j.j) c.weights-table.ensures
-    ∙ inner_same (a.n - 1) _ _ (λ j h. carried_is most_flux (a.n - 1) a.trial.now a.levels.now c.requires.fluxes j h a.corrects a.accepted a.t) c.loop-j.j
+    ∙ inner_same (a.n - 1) _ _ (λ j h. carried_is most_flux (a.n - 1) a.trial.now a.levels.now c.requires.fluxes j h a.stage a.accepted a.t) c.loop-j.j
 
 abbrev crosses : After-crossing-a → E
 crosses c =
     let a = c.args in
-    res 4_400_000_000_000_000_000 (crossing_is c) (crossing_within a.corrects a.accepted a.n a.x a.t a.e.now a.s.now a.trial.now a.levels.now c.requires c.loop-j.j)
+    res 4_400_000_000_000_000_000 (crossing_is c) (crossing_within a.stage a.accepted a.n a.x a.t a.e.now a.s.now a.trial.now a.levels.now c.requires c.loop-j.j)
 
-some : (c : After-crossing-a) → 0 < 1000 * (1000 * c.args.x) * over_of c.args.corrects
-some c = divisor_some c.args.corrects c.args.x c.requires.narrow
+some : (c : After-crossing-a) → 0 < 1000 * (1000 * c.args.x) * over_of c.args.stage
+some c = divisor_some c.args.stage c.args.x c.requires.narrow
 
 -- W of each face, from wall to wall
 abbrev faces : After-rounded-w → Row
-faces c = let a = c.args in Ws a.corrects a.accepted a.n a.x a.t a.e.now a.s.now a.trial.now a.levels.now
+faces c = let a = c.args in Ws a.stage a.accepted a.n a.x a.t a.e.now a.s.now a.trial.now a.levels.now
 
 small : (c : After-rounded-w) (j : ℕ) → j ≤ c.args.n → nat_abs (cell (faces c) j) ≤ 36_666_666_667
-small c j h = let a = c.args in Ws_within a.corrects a.accepted a.n a.x a.t a.e.now a.s.now a.trial.now a.levels.now c.requires j h
+small c j h = let a = c.args in Ws_within a.stage a.accepted a.n a.x a.t a.e.now a.s.now a.trial.now a.levels.now c.requires j h
 
 rounded_is : (c : After-rounded-w) → c.rounded-w.result ≡ cell (faces c) (suc c.loop-j.j)
 rounded_is c =
     let a = c.args in
     c.rounded-w.ensures
     ∙ (λ z. rounded (rd_is (crosses c.before) tt z) (c.face_divisor-d.ensures z))
-    ∙ crossed (a.n - 1) (flow c.before) (1000 * (1000 * a.x) * over_of a.corrects) (some c.before) c.loop-j.j (omega arith)
+    ∙ crossed (a.n - 1) (flow c.before) (1000 * (1000 * a.x) * over_of a.stage) (some c.before) c.loop-j.j (omega arith)
 
 -- over the right face of the cell at hand
 abbrev right : After-rounded-w → E
@@ -70,14 +70,14 @@ pub crossing-a-requires : goal.crossing-a-requires
 crossing-a-requires c =
     record {
       least = c.requires.least;
-      table_four = rw c.weights-table.ensures (four_of c.args.corrects c.args.accepted);
+      table_four = rw c.weights-table.ensures (four_of c.args.stage c.args.accepted);
       brief = c.requires.brief;
       fluxes = c.requires.fluxes;
     }
 
 pub rounded-w-requires : goal.rounded-w-requires
 rounded-w-requires c =
-    (rw (rd_is (crosses c) tt) (le_trans (abs≤ (crosses c)) (lit≤ tt)), (rw c.face_divisor-d.ensures (some c), rw c.face_divisor-d.ensures (divisor_most c.args.corrects c.args.x c.requires.wide)))
+    (rw (rd_is (crosses c) tt) (le_trans (abs≤ (crosses c)) (lit≤ tt)), (rw c.face_divisor-d.ensures (some c), rw c.face_divisor-d.ensures (divisor_most c.args.stage c.args.x c.requires.wide)))
 
 pub overflow_add-row : goal.overflow_add-row
 overflow_add-row c = need (entered c.before) tt

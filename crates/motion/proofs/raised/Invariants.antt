@@ -8,5 +8,5 @@ use Rattle.motion.proofs.raised.Given as goal
 
 abbrev pub invariant-loop-j : goal.invariant-loop-j
 invariant-loop-j l =
-    Filled (raised_at l.corrects l.accepted l.n l.x l.t l.e l.s l.trial l.levels) l.initial.row l.j l.row
-    × (l.left ≡ cell (Ws l.corrects l.accepted l.n l.x l.t l.e l.s l.trial l.levels) l.j)
+    Filled (raised_at l.fn.stage l.accepted l.n l.x l.t l.e l.s l.trial l.levels) l.initial.row l.j l.row
+    × (l.left ≡ cell (Ws l.fn.stage l.accepted l.n l.x l.t l.e l.s l.trial l.levels) l.j)

@@ -9,10 +9,10 @@ use Rattle.stage.proofs.stage.Goals as goal
 pub tried-requires : goal.tried-requires
 tried-requires c =
     let a = c.args in
-    tried_asked a.corrects (lent a.c) a.s.now a.before_q.now a.before_f.now c.requires.0 c.requires.1 c.raised-raised.result c.hastened-hastened.result c.raised-raised.ensures c.hastened-hastened.ensures
+    tried_asked a.kind (lent a.c) a.s.now a.before_q.now a.before_f.now c.requires.0 c.requires.1 c.raised-raised.result c.hastened-hastened.result c.raised-raised.ensures c.hastened-hastened.ensures
 
 pub returns : goal.returns
 returns c =
     let a = c.args in
     c.tried.ensures
-    ∙ ap (met_as (trial_of a.c.counts.n)) (stage_is a.corrects (lent a.c) a.s.now a.before_q.now a.before_f.now c.requires.0 c.requires.1 c.raised-raised.result c.hastened-hastened.result c.raised-raised.ensures c.hastened-hastened.ensures)
+    ∙ ap (met_as (trial_of a.c.counts.n)) (stage_is a.kind (lent a.c) a.s.now a.before_q.now a.before_f.now c.requires.0 c.requires.1 c.raised-raised.result c.hastened-hastened.result c.raised-raised.ensures c.hastened-hastened.ensures)
