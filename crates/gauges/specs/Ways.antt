@@ -1,8 +1,7 @@
 -- "Gauges": the ways out of a call: the channel's own refusal, or what is done to the gauges. Assumes nothing.
-use Rattle.std.specs.Prelude.{ℕ, ◌≤◌, ◌≡◌, length}
+use Rattle.std.specs.Prelude.{ℕ, ◌≤◌, ◌≡◌, None, length}
 use Rattle.std.proofs.Math.Path.{sym, ap}
 use Rattle.std.proofs.Common.{◌∙◌, arith, lit≤}
-use Rattle.std.proofs.Math.Bool.{false}
 use mathlib.Core.List.{List, []}
 use Rattle.rule.specs.Refusals.{Fault}
 use Rattle.rule.specs.Rows.{Row}
@@ -18,9 +17,9 @@ use Rattle.checks.specs.Numbers.{after_done, done_of}
 use Rattle.checks.specs.Met.{checked_outside}
 use Rattle.checks.specs.Facts.{cells_few}
 use Rattle.checks.specs.Allowed.{checks_passed, shape_lengths, allowed_of}
-use Rattle.form.specs.Reader.{fits_in}
+use Rattle.form.specs.Reader.{fits_lent, rows_in}
 use Rattle.opened.specs.Held.{cells_is}
-use Rattle.opened.specs.Opened.{Opened, read_outside, plain_read}
+use Rattle.opened.specs.Opened.{Opened, read_outside, none_read}
 use Rattle.gauge.specs.State.{free, placed, fed}
 use Rattle.gauge.specs.OnGauges.{place_call, feed_call, place_file, feed_file}
 
@@ -61,23 +60,23 @@ module _ (c : Channel) (z : number_of (checked c []) ≡ 0) where
   feed_on s = ap (plainly s) (sym (after_done (checked c []) tt _ (done_of (checked c []) z)))
 
 -- a file: refused by the reader
-module _ (file p s : List ℕ) (f : Fault) (e : f ≡ fault_of (read_with (fits_in false p) [] file)) (z : f.number ≡ 0 → ⊥) where
+module _ (file s : List ℕ) (f : Fault) (e : f ≡ fault_of (read_with (fits_lent None) (rows_in None) file)) (z : f.number ≡ 0 → ⊥) where
   pub place_unread : (j : ℕ) → leaves_bytes (early f) s ≡ place_file file j s
   unfolding place_file
   place_unread j =
-      refused_first s (λ _. free s) (λ t. t) f (read_with (fits_in false p) [] file) (λ c. placed c.N j s) (read_outside (fits_in false p) [] file) e z
-      ∙ ap (λ m. called s (λ _. free s) (λ t. t) (m >>= λ c. placed c.N j s)) (plain_read p file)
+      refused_first s (λ _. free s) (λ t. t) f (read_with (fits_lent None) (rows_in None) file) (λ c. placed c.N j s) (read_outside (fits_lent None) (rows_in None) file) e z
+      ∙ ap (λ m. called s (λ _. free s) (λ t. t) (m >>= λ c. placed c.N j s)) (none_read file)
 
   pub feed_unread : leaves_bytes (early f) s ≡ feed_file file s
   unfolding feed_file plainly
   feed_unread =
-      refused_first s (λ _. 0) (λ t. t) f (read_with (fits_in false p) [] file) (λ c. fed c.e s) (read_outside (fits_in false p) [] file) e z
-      ∙ ap (λ m. called s (λ _. 0) (λ t. t) (m >>= λ c. fed c.e s)) (plain_read p file)
+      refused_first s (λ _. 0) (λ t. t) f (read_with (fits_lent None) (rows_in None) file) (λ c. fed c.e s) (read_outside (fits_lent None) (rows_in None) file) e z
+      ∙ ap (λ m. called s (λ _. 0) (λ t. t) (m >>= λ c. fed c.e s)) (none_read file)
 
 -- and past it
-module _ (file p s : List ℕ) (o : Opened (fits_in false p) [] file) where
+module _ (file s : List ℕ) (o : Opened (fits_lent None) (rows_in None) file) where
   read_done : read file ≡ done (channel_of file)
-  read_done = sym (plain_read p file) ∙ o.is
+  read_done = sym (none_read file) ∙ o.is
 
   pub place_read : (j n : ℕ) → n ≡ count_of file 1 → called s (λ (_ : List ℕ). free s) (λ t. t) (placed n j s) ≡ place_file file j s
   unfolding place_file

@@ -25,9 +25,18 @@ pub fn place(
 ) -> rule::Answer
     ensures { leaves_bytes result gauges.new ≡ place_call (counted c h.now e.now u.now v.now q.now f.now damping.now) cell gauges.old }
 {
-    let fault = checks::check(c, h, e, u, v, q, f, damping, false, e);
-    if fault.number != 0 {
-        return answers::refused(fault, 0);
+    let lent = rule::Lent {
+        counts: c,
+        h,
+        e,
+        u,
+        v,
+        q,
+        f,
+        damping,
+    };
+    if let Err(why) = checks::check(lent, None) {
+        return answers::refused(why, 0);
     }
     gauge_state::place(c.n, cell, gauges)
 }
@@ -46,9 +55,18 @@ pub fn feed(
 ) -> rule::Answer
     ensures { leaves_bytes result gauges.new ≡ feed_call (counted c h.now e.now u.now v.now q.now f.now damping.now) gauges.old }
 {
-    let fault = checks::check(c, h, e, u, v, q, f, damping, false, e);
-    if fault.number != 0 {
-        return answers::refused(fault, 0);
+    let lent = rule::Lent {
+        counts: c,
+        h,
+        e,
+        u,
+        v,
+        q,
+        f,
+        damping,
+    };
+    if let Err(why) = checks::check(lent, None) {
+        return answers::refused(why, 0);
     }
     gauge_state::feed(e, gauges)
 }
@@ -65,9 +83,8 @@ fn heights(file: &[u8], n: usize) -> [i64; rule::MOST_CELLS]
 pub fn place_file(file: &[u8], cell: u64, gauges: &mut [u8]) -> rule::Answer
     ensures { leaves_bytes result gauges.new ≡ place_file file.now cell gauges.old }
 {
-    let fault = reader::check(file, false, file);
-    if fault.number != 0 {
-        return answers::refused(fault, 0);
+    if let Err(why) = reader::check(file, None) {
+        return answers::refused(why, 0);
     }
     let n = little::count_at(file, 4) as usize;
     gauge_state::place(n, cell, gauges)
@@ -76,8 +93,7 @@ pub fn place_file(file: &[u8], cell: u64, gauges: &mut [u8]) -> rule::Answer
 pub fn feed_file(file: &[u8], gauges: &mut [u8]) -> rule::Answer
     ensures { leaves_bytes result gauges.new ≡ feed_file file.now gauges.old }
 {
-    let refusal = reader::check(file, false, file);
-    if refusal.number != 0 {
+    if let Err(refusal) = reader::check(file, None) {
         return answers::refused(refusal, 0);
     }
     let n = little::count_at(file, 4) as usize;
