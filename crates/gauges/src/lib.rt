@@ -93,7 +93,8 @@ pub fn place_file(file: &[u8], cell: u64, gauges: &mut [u8]) -> rule::Answer
 pub fn feed_file(file: &[u8], gauges: &mut [u8]) -> rule::Answer
     ensures { leaves_bytes result gauges.new ≡ feed_file file.now gauges.old }
 {
-    if let Err(refusal) = reader::check(file, None) {
+    let read = reader::check(file, None);
+    if let Err(refusal) = read {
         return answers::refused(refusal, 0);
     }
     let n = little::count_at(file, 4) as usize;

@@ -16,17 +16,17 @@ pub returns-in-Err : goal.returns-in-Err
 returns-in-Err c =
     let a = c.args in
     ap (λ r. leaves_bytes r a.gauges.now) c.refused.ensures
-    ∙ feed_unread a.file.now a.gauges.now _ (met_refused _ _ (as_refused _ _ _ c.in-Err.ensures)) (number_not_0 c.in-Err.refusal)
+    ∙ feed_unread a.file.now a.gauges.now _ (met_refused _ _ (as_refused _ _ _ (sym c.in-Err.is ∙ c.check-read.ensures))) (number_not_0 c.in-Err.refusal)
 
 pub count_at-n-requires : goal.count_at-n-requires
 count_at-n-requires c =
-    let taken = taken_of _ _ _ c.in_default.ensures in
+    let taken = taken_of _ _ _ (sym c.in_default.is ∙ c.check-read.ensures) in
     omega (arith, taken.head)
 
 pub heights-e-requires : goal.heights-e-requires
 unfolding count_of
 heights-e-requires c =
-    let taken = taken_of _ _ _ c.in_default.ensures in
+    let taken = taken_of _ _ _ (sym c.in_default.is ∙ c.check-read.ensures) in
     let cells : c.count_at-n.result ≡ count_of c.args.file.now 1 = c.count_at-n.ensures.0 in
     let held : Held c.count_at-n.result c.args.file.now = held_by taken c.count_at-n.result cells in
     held
@@ -34,7 +34,7 @@ heights-e-requires c =
 pub slice_bounds-e-end : goal.slice_bounds-e-end
 unfolding count_of
 slice_bounds-e-end c =
-    let taken = taken_of _ _ _ c.in_default.ensures in
+    let taken = taken_of _ _ _ (sym c.in_default.is ∙ c.check-read.ensures) in
     let cells : c.count_at-n.result ≡ count_of c.args.file.now 1 = c.count_at-n.ensures.0 in
     let held : Held c.count_at-n.result c.args.file.now = held_by taken c.count_at-n.result cells in
     let heights_long : length (channel_of c.args.file.now).e ≡ c.count_at-n.result = length_heights c.args.file.now ∙ sym cells in
@@ -52,7 +52,7 @@ slice_bounds-feed-end c =
 pub feed-requires : goal.feed-requires
 unfolding count_of
 feed-requires c =
-    let taken = taken_of _ _ _ c.in_default.ensures in
+    let taken = taken_of _ _ _ (sym c.in_default.is ∙ c.check-read.ensures) in
     let cells : c.count_at-n.result ≡ count_of c.args.file.now 1 = c.count_at-n.ensures.0 in
     let held : Held c.count_at-n.result c.args.file.now = held_by taken c.count_at-n.result cells in
     let heights_long : length (channel_of c.args.file.now).e ≡ c.count_at-n.result = length_heights c.args.file.now ∙ sym cells in
@@ -62,7 +62,7 @@ feed-requires c =
 pub returns : goal.returns
 unfolding count_of
 returns c =
-    let taken = taken_of _ _ _ c.in_default.ensures in
+    let taken = taken_of _ _ _ (sym c.in_default.is ∙ c.check-read.ensures) in
     let cells : c.count_at-n.result ≡ count_of c.args.file.now 1 = c.count_at-n.ensures.0 in
     let heights_long : length (channel_of c.args.file.now).e ≡ c.count_at-n.result = length_heights c.args.file.now ∙ sym cells in
     let part_is : take c.count_at-n.result c.heights-e.result ≡ (channel_of c.args.file.now).e = ap (take c.count_at-n.result) c.heights-e.ensures ∙ take_padded c.count_at-n.result (channel_of c.args.file.now).e heights_long in
