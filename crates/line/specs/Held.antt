@@ -1,29 +1,35 @@
 -- The channel file: what is printed of a file, by the reader's fault. Assumes nothing.
-use Rattle.std.specs.Prelude.{ℕ, ◌^◌, ◌≤◌, ◌<◌, ◌≡◌, true, take}
+use Rattle.std.specs.Prelude.{ℕ, ◌^◌, ◌≤◌, ◌<◌, ◌≡◌, true, None, take}
 use Rattle.std.proofs.Common.{arith, ◌∙◌}
 use Rattle.std.proofs.Math.Path.{refl, sym, ap, subst}
-use Rattle.std.proofs.Math.Bool.{false}
 use mathlib.Core.List.{List, []}
 use Rattle.std.proofs.Math.ListN.{length}
-use Rattle.rule.specs.Refusals.{Fault}
+use Rattle.rule.specs.declared.Answer.{Answer}
 use Rattle.rule.specs.Ranges.{most_cells, most_height}
 use Rattle.whole.specs.Row.{padded, Within}
 use Rattle.rule.specs.Rows.{Row}
-use Rattle.rule.specs.Refusals.{Outcome, refused, done, number_of, fault_of}
+use Rattle.rule.specs.Refusals.{Outcome, refused, done, number_of, met_as}
 use Rattle.rule.specs.Bytes.{count_at, row_at}
 use Rattle.rule.specs.Layout.{widths, start_of, length_of}
 use Rattle.rule.specs.File.{edition, least_length, count_of, channel_of, read_with}
-use Rattle.rule.specs.Channel.{lengths}
+use Rattle.rule.specs.Channel.{Channel, lengths}
 use Rattle.rule.specs.Line.{line, channel_line}
 use Rattle.rule.specs.Calls.{read, print_file}
-use Rattle.checks.specs.Numbers.{number_within, numbered}
+use Rattle.checks.specs.Numbers.{number_within}
+use Rattle.answers.specs.Stages.{answer_of}
 use Rattle.checks.specs.Allowed.{allowed_of}
 use Rattle.little.specs.Written.{written, length_written}
 use Rattle.text.specs.Lines.{line_of, refused_of, Printable, channel_line_lem, refused_line}
-use Rattle.opened.specs.Opened.{Opened, opened_of, read_refused, plain_read}
-use Rattle.form.specs.Reader.{fits_in}
+use Rattle.opened.specs.Opened.{Opened, opened_of, none_read}
+use Rattle.form.specs.Reader.{fits_lent, rows_in}
 use Rattle.opened.specs.Held.{four_cut}
 use Rattle.opened.specs.Fitting.{held_row}
+
+-- the number that the reader answers of an outcome, as the code has it
+number_is : {A : Type 0} (m : Outcome A) → (answer_of (met_as (λ _. 0) m)).number ≡ number_of m
+unfolding met_as number_of
+number_is (refused r k) = refl
+number_is (done a) = refl
 
 -- every number is at most 38
 outcome_most : {A : Type 0} (m : Outcome A) → number_of m ≤ 38
@@ -31,20 +37,24 @@ unfolding number_of
 outcome_most (refused r k) = (number_within r).1
 outcome_most (done a) = omega arith
 
--- the reader's fault f for the bytes s, as the code has it
-module _ (s : List ℕ) (f : Fault) (e : f ≡ fault_of (read_with (fits_in false s) [] s)) where
-  pub is_number : f.number ≡ number_of (read s)
-  is_number = numbered e ∙ ap number_of (plain_read s s)
+-- what is refused has its line
+line_refused : (m : Outcome Channel) → 1 ≤ number_of m → refused_of (number_of m) ≡ line m
+unfolding number_of
+line_refused (refused r k) h = refused_line r k
+line_refused (done a) h = absurd (omega arith)
 
-  pub at_most : f.number ≤ 38
+-- the reader's answer a for the bytes s, as the code has it
+module _ (s : List ℕ) (a : Answer) (e : a ≡ answer_of (met_as (λ _. 0) (read_with (fits_lent None) (rows_in None) s))) where
+  pub is_number : a.number ≡ number_of (read s)
+  is_number = ap (λ (b : Answer). b.number) e ∙ number_is (read_with (fits_lent None) (rows_in None) s) ∙ ap number_of (none_read s)
+
+  pub at_most : a.number ≤ 38
   at_most = omega (arith, is_number, outcome_most (read s))
 
   -- 1 to 38
-  pub refused_is : 1 ≤ f.number → refused_of f.number ≡ print_file s
-  unfolding print_file read
-  refused_is h =
-      let r = read_refused (fits_in false s) [] s f e (λ z. omega arith) in
-      ap refused_of (numbered r.tells) ∙ refused_line r.why 0 ∙ ap line (sym r.is ∙ plain_read s s)
+  pub refused_is : 1 ≤ a.number → refused_of a.number ≡ print_file s
+  unfolding print_file
+  refused_is h = ap refused_of is_number ∙ line_refused (read s) (omega (arith, h, is_number))
 
 -- a file that the reader takes
 module _ (s : List ℕ) (z : number_of (read s) ≡ 0) where

@@ -21,11 +21,11 @@ fn held_line(s: &[u8], d: &mut [u8]) -> usize
     text::channel_line(d, n, accepted, wanted, &e[..cells])
 }
 
-// What the printing program prints of the bytes s. The reader's number is 0, or a refusal's, at most 38.
+// What the printing program prints of the bytes s. The number of the reader's answer is 0, or a refusal's, at most 38.
 pub fn line(s: &[u8], d: &mut [u8; 64]) -> usize
     ensures { (result ≡ length (print_file s.now)) × (d.new ≡ written d.old 0 (print_file s.now)) × (result ≤ 64) }
 {
-    let number = reader::check(s, false, s).number;
+    let number = reader::answer(s, None).number;
     match number {
         1..=38 => text::refused_line(d, number),
         _ => held_line(s, d),
