@@ -58,10 +58,6 @@ unfolding fits_in
 fits_poured true p n = refl
 fits_poured false p n = refl
 
-pub rows_poured : (pours : Bool) (p : Bor (List ℕ)) → rows_in (then_some pours p) ≡ poured_rows pours (row_in p.now)
-rows_poured true p = refl
-rows_poured false p = refl
-
 pub poured_cut : (pours : Bool) (n : ℕ) (p : Bor (List ℕ)) {array : Row} → array ≡ poured_array (then_some pours p) n → fits_in pours p.now n ≡ true → poured_rows pours (take n array) ≡ poured_rows pours (row_in p.now)
 unfolding poured_array fits_in
 poured_cut true n p e z = ap (λ row. row ∷ []) (ap (take n) e ∙ take_padded n (row_in p.now) (row_long p.now n z))

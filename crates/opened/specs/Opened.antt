@@ -1,5 +1,7 @@
 -- The channel file: what the reader's fault says. At number 0 the file is right and holds a channel that passes the checks; any other is a refusal's, at stage 0. Assumes nothing.
-use Rattle.std.specs.Prelude.{ℕ, ◌≤◌, ◌≡◌, Bool, true, false, not, ◌&&◌, List, [], ◌∷◌, Ok, None, ltb, eqb, length}
+use Rattle.std.specs.Borrow.{Bor}
+use Rattle.std.specs.Bool.{then_some}
+use Rattle.std.specs.Prelude.{ℕ, ◌≤◌, ◌≡◌, Bool, true, false, not, ◌&&◌, List, [], ◌∷◌, Ok, Option, None, ltb, eqb, length}
 use Rattle.std.proofs.Math.Path.{refl, sym}
 use Rattle.std.proofs.Common.{◌∙◌, ap, eqb-true, ltb-false}
 use Rattle.std.proofs.lemmas.Bool.{not-true}
@@ -18,6 +20,7 @@ use Rattle.checks.specs.Tests.{both, same_is}
 use Rattle.checks.specs.Numbers.{both_done, number_of_done, passed, passed_last, passes, after_done, done_of, numbered, Outside, refuses_then, refuses_test, Refused, refused_of_lem, Early}
 use Rattle.places.specs.Met.{as_done}
 use Rattle.checks.specs.Met.{allowed_outside}
+use Rattle.checks.specs.Allowed.{poured_rows}
 use Rattle.checks.specs.Facts.{cells_few}
 use Rattle.form.specs.Reader.{fits_in, fits_lent, rows_in, head_tests, form_tests, shape_passes, body_tests, read_is}
 use Rattle.opened.specs.Held.{shaped_held}
@@ -53,6 +56,12 @@ plain_read p s = refl
 pub poured_read : (p s : List ℕ) → read_with (fits_in true p) (row_in p ∷ []) s ≡ read_with (holds p) (row_in p ∷ []) s
 unfolding fits_in
 poured_read p s = refl
+
+-- of a call that pours or not, as the code has it
+pub lent_read : (pours : Bool) (p : Bor (List ℕ)) (s : List ℕ) {o : Option (Bor (List ℕ))} → o ≡ then_some pours p → read_with (fits_lent o) (rows_in o) s ≡ read_with (fits_in pours p.now) (poured_rows pours (row_in p.now)) s
+unfolding fits_in
+lent_read true p s e = rw e
+lent_read false p s e = rw e
 
 -- a file that the reader takes
 pub record Opened (fits : ℕ → Bool) (poured : List Row) (s : List ℕ) : Type 0 where
