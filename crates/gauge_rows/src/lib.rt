@@ -49,12 +49,11 @@ pub fn first_not<F: Fn(Gauge) -> bool>(row: &[i64], passes: F) -> Option<u64>
     requires callable { F.IsAlwaysCallable passes }
     ensures { (p : Gauge → Bool) → Tells (F.post passes) p row.now → result ≡ found (lowest p (gauges_in row.now)) }
 {
+    let mut place = None;
     for k in 0..8 {
-        if !passes(gauge_at(row, k)) {
-            return Some(k as u64 + 1);
-        }
+        place = places::lower(place, passes(gauge_at(row, k)), k);
     }
-    None
+    place
 }
 
 // A gauge with the height at its cell, of the heights e; an empty place stays.
