@@ -3,7 +3,7 @@ use Rattle.std.specs.Prelude.{ℕ, ◌*◌, ◌≤◌, ◌≡◌, true, ◌&&◌
 use Rattle.std.proofs.Common.{sym, ◌∙◌, eq-eqb, eqb-true}
 use Rattle.std.proofs.Math.Path.{ap}
 use Rattle.whole.specs.Row.{padded}
-use Rattle.rule.specs.declared.Answer.{Answer}
+use Rattle.rule.specs.declared.Refusal.{Refusal}
 use Rattle.rule.specs.Rows.{Row}
 use Rattle.rule.specs.Ranges.{cells_allowed, least_cells, most_cells}
 use Rattle.rule.specs.Channel.{Channel, rows}
@@ -13,11 +13,12 @@ use Rattle.rule.specs.Bytes.{row_at}
 use Rattle.rule.specs.Layout.{length_of}
 use Rattle.rule.specs.File.{edition, file_of}
 use Rattle.rule.specs.Calls.{Called, called, plainly, fit, make_call, row_in, holds}
+use Rattle.places.specs.Faults.{told}
 use Rattle.checks.specs.Tests.{both}
 use Rattle.checks.specs.Numbers.{number_not_0}
 use Rattle.checks.specs.Facts.{cells_few, lengths_pass, LengthsOf}
 use Rattle.checks.specs.Made.{Makeable}
-use Rattle.answers.specs.Stages.{leaves, leaves_bytes, acceptance}
+use Rattle.answers.specs.Stages.{leaves, leaves_bytes, acceptance, early}
 use Rattle.form.specs.Reader.{fits_in}
 use Rattle.opened.specs.Held.{poured_is, four_cut}
 use Rattle.water.specs.Starts.{make_passes}
@@ -44,41 +45,39 @@ fits : (c : Channel) → LengthsOf c → fit c c.N ≡ true
 unfolding fit rows
 fits c l = lengths_pass c.N c.h c.e c.u c.v c.Q c.F c.damping l
 
--- an outcome m of a call on the lent channel, told by its answer r and by the channel c that it leaves
-module _ (lent c : Channel) (r : Answer) (s : List ℕ) where
-  refuses : (m : Outcome Channel) → leaves r c ≡ plainly lent m → (r.number ≡ 0 → ⊥) → leaves_bytes r s ≡ filed s m
+-- an outcome m of a call on the lent channel, told by what is answered and by the channel c that it leaves
+module _ (lent c : Channel) (s : List ℕ) where
+  refuses : (m : Outcome Channel) (r : Refusal) → leaves (early (told r)) c ≡ plainly lent m → leaves_bytes (early (told r)) s ≡ filed s m
   unfolding plainly filed called
-  refuses (refused why k) p z = ap (λ (t : Called Channel). leaves_bytes t.answer s) p
-  refuses (done b) p z = absurd (z (ap (λ (t : Called Channel). t.answer.number) p))
+  refuses (refused why k) r p = ap (λ (t : Called Channel). leaves_bytes t.answer s) p
+  refuses (done b) r p = absurd (number_not_0 r (ap (λ (t : Called Channel). t.answer.number) p))
 
-  makes : (m : Outcome Channel) → leaves r c ≡ plainly lent m → r.number ≡ 0 → m ≡ done c
+  makes : (m : Outcome Channel) → leaves (acceptance 0) c ≡ plainly lent m → m ≡ done c
   unfolding plainly called
-  makes (refused why k) p z = absurd (number_not_0 why (sym (ap (λ (t : Called Channel). t.answer.number) p) ∙ z))
-  makes (done b) p z = ap (λ (t : Called Channel). done t.left) (sym p)
+  makes (refused why k) p = absurd (number_not_0 why (sym (ap (λ (t : Called Channel). t.answer.number) p)))
+  makes (done b) p = ap (λ (t : Called Channel). done t.left) (sym p)
 
-  files : (m : Outcome Channel) (after : List ℕ) → leaves r c ≡ plainly lent m → r.number ≡ 0 → after ≡ file_of c → leaves_bytes r after ≡ filed s m
-  unfolding plainly filed called
-  files (refused why k) after p z q = absurd (number_not_0 why (sym (ap (λ (t : Called Channel). t.answer.number) p) ∙ z))
-  files (done b) after p z q =
-      (λ i. leaves_bytes (p i).answer (q i)) ∙ ap (λ (t : Called Channel). leaves_bytes (acceptance 0) (file_of t.left)) p
+  files : (m : Outcome Channel) (after : List ℕ) → m ≡ done c → after ≡ file_of c → leaves_bytes (acceptance 0) after ≡ filed s m
+  unfolding filed called
+  files m after p q = rw p (ap (leaves_bytes (acceptance 0)) q)
 
 -- of make, on lent rows of the lengths that it asks
-module _ (lent c : Channel) (r : Answer) (s : List ℕ) (is : leaves r c ≡ make_call lent) (long : LengthsOf lent) where
+module _ (lent c : Channel) (s : List ℕ) (long : LengthsOf lent) where
   abbrev made : Outcome Channel
   made = make lent.N lent.X lent.T lent.wanted lent.h lent.e lent.u lent.damping
 
-  told : leaves r c ≡ plainly lent made
+  call_is : make_call lent ≡ plainly lent made
   unfolding make_call require ◌>>=◌
-  told = is ∙ rw (fits lent long)
+  call_is = rw (fits lent long)
 
-  pub made_refused : (r.number ≡ 0 → ⊥) → leaves_bytes r s ≡ filed s made
-  made_refused z = refuses lent c r s made told z
+  pub made_refused : (r : Refusal) → leaves (early (told r)) c ≡ make_call lent → leaves_bytes (early (told r)) s ≡ filed s made
+  made_refused r is = refuses lent c s made r (is ∙ call_is)
 
-  pub made_writable : r.number ≡ 0 → WritableOf c
-  made_writable z = writable_of c [] (make_passes lent.N lent.X lent.T lent.wanted lent.h lent.e lent.u lent.damping c (makes lent c r s made told z))
+  pub made_writable : leaves (acceptance 0) c ≡ make_call lent → WritableOf c
+  made_writable is = writable_of c [] (make_passes lent.N lent.X lent.T lent.wanted lent.h lent.e lent.u lent.damping c (makes lent c s made (is ∙ call_is)))
 
-  pub made_filed : (after : List ℕ) → r.number ≡ 0 → after ≡ file_of c → leaves_bytes r after ≡ filed s made
-  made_filed after z q = files lent c r s made after told z q
+  pub made_filed : (after : List ℕ) → leaves (acceptance 0) c ≡ make_call lent → after ≡ file_of c → leaves_bytes (acceptance 0) after ≡ filed s made
+  made_filed after is q = files lent c s made after (makes lent c s made (is ∙ call_is)) q
 
 -- rows of n entries in bytes
 pub record Held (n : ℕ) (h e u damping : List ℕ) : Type 0 where

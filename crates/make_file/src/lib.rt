@@ -9,22 +9,9 @@ ghost use Rattle.rule.specs.Calls.{make_file};
 ghost use Rattle.rule.specs.Make as rule;
 ghost use Rattle.checks.specs.Facts.{Lengths};
 ghost use Rattle.answers.specs.Stages.{leaves_bytes};
+ghost use Rattle.make.specs.Left.{answer_by};
 ghost use Rattle.make_checks.specs.Order.{filed, make_rows};
 ghost use Rattle.make_file.specs.Left.{Fitting};
-
-// An array for a row of up to 256 entries.
-fn cells_room() -> [i64; rule::MOST_CELLS]
-    ensures { length result ≡ most_cells }
-{
-    [0; rule::MOST_CELLS]
-}
-
-// An array for three levels of up to 256 entries.
-fn levels_room() -> [i64; 3 * rule::MOST_CELLS]
-    ensures { length result ≡ 3 * most_cells }
-{
-    [0; 3 * rule::MOST_CELLS]
-}
 
 // The file of the channel that is made of h, e, u and damping, where it is made. The rows v, q and f are filled on the way.
 fn make_in(
@@ -37,17 +24,13 @@ fn make_in(
     f: &mut [i64],
     damping: &[i64],
     file: &mut [u8],
-) -> rule::Answer
+) -> Result<(), rule::Refusal>
     requires { (length file.old ≡ length_of edition c.n) × Lengths c.n h.now e.now u.now v.old q.old f.old damping.now }
-    ensures { leaves_bytes result file.new ≡ filed file.old (rule.make c.n c.x c.t c.wanted h.now e.now u.now damping.now) }
+    ensures { leaves_bytes (answer_by result) file.new ≡ filed file.old (rule.make c.n c.x c.t c.wanted h.now e.now u.now damping.now) }
 {
-    let r = make::make(c, h, e, u, v, q, f, damping);
-    let answer = r.answer;
-    if answer.number != 0 {
-        return answer;
-    }
-    put::put(file, c.after(r.accepted), h, e, u, v, q, f, damping);
-    answer
+    make::fill(c, h, e, u, v, q, f, damping)?;
+    put::put(file, c.after(0), h, e, u, v, q, f, damping);
+    Ok(())
 }
 
 // The same, with rows of its own for what is made.
@@ -58,16 +41,16 @@ fn make_fitting(
     u: &[i64],
     damping: &[i64],
     file: &mut [u8],
-) -> rule::Answer
+) -> Result<(), rule::Refusal>
     requires { Fitting c.n h.now e.now u.now damping.now file.old }
-    ensures { leaves_bytes result file.new ≡ filed file.old (rule.make c.n c.x c.t c.wanted h.now e.now u.now damping.now) }
+    ensures { leaves_bytes (answer_by result) file.new ≡ filed file.old (rule.make c.n c.x c.t c.wanted h.now e.now u.now damping.now) }
 {
     let n = c.n;
     let faces = 3 * (n - 1);
     let cells = 3 * n;
-    let mut v = cells_room();
-    let mut q = levels_room();
-    let mut f = levels_room();
+    let mut v = [0; rule::MOST_CELLS];
+    let mut q = [0; 3 * rule::MOST_CELLS];
+    let mut f = [0; 3 * rule::MOST_CELLS];
     make_in(
         c,
         h,
@@ -89,14 +72,11 @@ fn make_rows(
     u: &[i64],
     damping: &[i64],
     file: &mut [u8],
-) -> rule::Answer
+) -> Result<(), rule::Refusal>
     requires { (1 ≤ c.n) × (c.n ≤ most_cells) }
-    ensures { leaves_bytes result file.new ≡ make_rows c.n c.x c.t c.wanted h.now e.now u.now damping.now file.old }
+    ensures { leaves_bytes (answer_by result) file.new ≡ make_rows c.n c.x c.t c.wanted h.now e.now u.now damping.now file.old }
 {
-    let fault = make_checks::check(c, h, e, u, damping, file.len());
-    if fault.number != 0 {
-        return answers::refused(fault, 0);
-    }
+    make_checks::check(c, h, e, u, damping, file.len())?;
     make_fitting(c, h, e, u, damping, file)
 }
 
@@ -116,11 +96,7 @@ pub fn make(
     ensures { leaves_bytes result file.new ≡ make_file n x t wanted h.now e.now u.now damping.now file.old }
 {
     if !make_checks::shape_passes(n, h, e, u, damping) {
-        let unfit = rule::Fault {
-            number: 1,
-            place: 0,
-        };
-        return answers::refused(unfit, 0);
+        return answers::refused(rule::Refusal::Shape, 0);
     }
     let cells = n as usize;
     let depths = little::read_row::<i32>(h, 0, cells);
@@ -134,12 +110,16 @@ pub fn make(
         accepted: 0,
         wanted,
     };
-    make_rows(
+    let made = make_rows(
         c,
         &depths[..cells],
         &heights[..cells],
         &velocities[..cells],
         &dampings[..cells],
         file,
-    )
+    );
+    match made {
+        Ok(()) => answers::accepted(0),
+        Err(why) => answers::refused(why, 0),
+    }
 }

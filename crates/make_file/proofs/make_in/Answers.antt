@@ -1,25 +1,30 @@
 -- `make_file::make_in` meets its contract: what make leaves in the rows is what is written. Assumes nothing.
+use mathlib.Core.Path.{◌∙◌, ap}
 use Rattle.rule.specs.Counted.{counted, after}
+use Rattle.places.specs.Met.{from_err}
+use Rattle.answers.specs.Stages.{leaves_bytes}
+use Rattle.make.specs.Left.{answer_by}
 use Rattle.make_file.specs.Left.{made_refused, made_writable, made_filed}
 use Rattle.make_file.proofs.make_in.Goals as goal
-use Rattle.make_file.proofs.make_in.Goals.{After-make-r, Start}
 
-pub returns-then-answer-ne0 : goal.returns-then-answer-ne0
-returns-then-answer-ne0 c =
-    let k = c in
-    made_refused (let a = k.args in counted a.c a.h.now a.e.now a.u.now a.v.now a.q.now a.f.now a.damping.now) (let a = k.args in let l = k.make-r.new in counted (after a.c k.make-r.result.accepted) a.h.now a.e.now a.u.now l.v l.q l.f a.damping.now) k.make-r.result.answer (k.args.file.now) k.make-r.ensures k.requires.1 c.if-answer-ne0.true
+pub returns-in_err-fill : goal.returns-in_err-fill
+returns-in_err-fill c =
+    let a = c.args in
+    let l = c.fill.new in
+    ap (λ r. leaves_bytes (answer_by r) a.file.now) (from_err _ _ c.from_residual.ensures.1)
+    ∙ made_refused (counted a.c a.h.now a.e.now a.u.now a.v.now a.q.now a.f.now a.damping.now) _ a.file.now c.requires.1 _ c.in_err-fill.ensures
 
 pub put-requires : goal.put-requires
 put-requires c =
-    let moved = c.after.ensures in
-    let o = c in
-    let k = o in
-    rw moved (k.requires.0, made_writable (let a = k.args in counted a.c a.h.now a.e.now a.u.now a.v.now a.q.now a.f.now a.damping.now) (let a = k.args in let l = k.make-r.new in counted (after a.c k.make-r.result.accepted) a.h.now a.e.now a.u.now l.v l.q l.f a.damping.now) k.make-r.result.answer (k.args.file.now) k.make-r.ensures k.requires.1 o.if-answer-ne0.false)
+    let a = c.args in
+    let l = c.fill.new in
+    rw c.after.ensures
+    (c.requires.0, made_writable (counted a.c a.h.now a.e.now a.u.now a.v.now a.q.now a.f.now a.damping.now) (counted (after a.c 0) a.h.now a.e.now a.u.now l.v l.q l.f a.damping.now) a.file.now c.requires.1 c.in_ok-fill.ensures)
 
 pub returns : goal.returns
 returns c =
-    let p = c in
-    let moved = p.after.ensures in
-    let o = p in
-    let k = o in
-    made_filed (let a = k.args in counted a.c a.h.now a.e.now a.u.now a.v.now a.q.now a.f.now a.damping.now) (let a = k.args in let l = k.make-r.new in counted (after a.c k.make-r.result.accepted) a.h.now a.e.now a.u.now l.v l.q l.f a.damping.now) k.make-r.result.answer (k.args.file.now) k.make-r.ensures k.requires.1 p.put.new.d o.if-answer-ne0.false (rw moved at p.put.ensures)
+    let a = c.args in
+    let l = c.fill.new in
+    let moved = c.after.ensures in
+    made_filed (counted a.c a.h.now a.e.now a.u.now a.v.now a.q.now a.f.now a.damping.now) (counted (after a.c 0) a.h.now a.e.now a.u.now l.v l.q l.f a.damping.now) a.file.now c.requires.1 c.put.new.d c.in_ok-fill.ensures
+    (rw moved at c.put.ensures)
