@@ -3,53 +3,44 @@
 
 ghost use Rattle.std.specs.Prelude.{◌≡◌, []};
 ghost use Rattle.answers.specs.Stages.{leaves};
-ghost use Rattle.rule.specs.Counted.{counted};
+ghost use Rattle.rule.specs.Counted.{counted, lent};
 ghost use Rattle.rule.specs.Checks as checks;
-ghost use Rattle.rule.specs.Refusals.{fault_of};
+ghost use Rattle.rule.specs.Refusals.{met, met_as};
 ghost use Rattle.rule.specs.Filter as rule;
 ghost use Rattle.rule.specs.Step.{tried};
 ghost use Rattle.rule.specs.Calls.{filter_call};
-ghost use Rattle.motion.specs.Weights.{moving};
 ghost use Rattle.stage.specs.Trials.{trial_of};
 ghost use Rattle.filter.specs.Asked.{Smoothing};
+ghost use Rattle.filter.specs.Filtered.{pass};
 
 // The input checks, then 11: the first that fails.
-fn ready(
-    c: rule::Counts,
-    h: &[i64],
-    e: &[i64],
-    u: &[i64],
-    v: &[i64],
-    q: &[i64],
-    f: &[i64],
-    damping: &[i64],
-) -> rule::Fault
-    ensures { result ≡ fault_of (checks.ready (counted c h.now e.now u.now v.now q.now f.now damping.now) []) }
+fn ready(c: rule::Lent) -> Result<(), rule::Refusal>
+    ensures { result ≡ met (checks.ready (lent c.entry) []) }
 {
-    let fault = checks::check(c, h, e, u, v, q, f, damping, false, h);
-    if fault.number != 0 {
-        return fault;
+    checks::check(c, None)?;
+    if c.counts.accepted == c.counts.wanted {
+        return Err(rule::Refusal::Complete);
     }
-    if c.accepted == c.wanted {
-        return rule::Fault {
-            number: 11,
-            place: 0,
-        };
-    }
-    rule::Fault {
-        number: 0,
-        place: 0,
-    }
+    Ok(())
 }
 
 // The smoothed rows, the checks of a stage, and what is worked out from them.
-fn smoothed(n: usize, x: u64, h: &[i64], e: &[i64], v: &[i64], damping: &[i64]) -> stage::Trial
-    requires { Smoothing n x h.now e.now v.now damping.now }
-    ensures { result ≡ trial_of n (tried (moving n x 0 h.now [] [] damping.now) (rule.smoothed n e.now) (rule.smoothed_reduced n v.now)) }
+fn smoothed(c: rule::Lent) -> Result<stage::Trial, rule::Refusal>
+    requires { Smoothing (lent c) }
+    ensures { result ≡ met_as (trial_of c.entry.counts.n) (tried (lent c.entry) (rule.smoothed c.entry.counts.n c.entry.e.now) (rule.smoothed_reduced c.entry.counts.n c.entry.v.now)) }
 {
-    let heights = smoothing::smoothed(n, e);
-    let reduced = smoothing::smoothed_reduced(n, v);
-    stage::tried(n, x, h, heights, reduced, damping)
+    let n = c.counts.n;
+    let heights = smoothing::smoothed(n, c.e);
+    let reduced = smoothing::smoothed_reduced(n, c.v);
+    stage::tried(n, c.counts.x, c.h, heights, reduced, c.damping)
+}
+
+// A pass, before anything is stored.
+fn pass(c: rule::Lent) -> Result<stage::Trial, rule::Refusal>
+    ensures { result ≡ met_as (trial_of c.entry.counts.n) (pass (lent c.entry)) }
+{
+    ready(c)?;
+    smoothed(c)
 }
 
 // All is worked out before anything is stored. A refused call leaves the lent rows as they were.
@@ -65,21 +56,22 @@ pub fn filter(
 ) -> rule::Answer
     ensures { leaves result (counted c h.now e.new u.new v.new q.new f.new damping.now) ≡ filter_call (counted c h.now e.old u.old v.old q.old f.old damping.now) }
 {
-    let fault = ready(c, h, e, u, v, q, f, damping);
-    if fault.number != 0 {
-        return answers::refused(fault, 0);
+    let passed = pass(rule::Lent {
+        counts: c,
+        h,
+        e,
+        u,
+        v,
+        q,
+        f,
+        damping,
+    });
+    match passed {
+        Ok(trial) => {
+            store::keep_cells(c.n, e, u, v, &trial.e, &trial.u, &trial.v);
+            store::renew_levels(c.n, q, f, &trial.q, &trial.f);
+            answers::accepted(0)
+        }
+        Err(why) => answers::refused(why, 0),
     }
-    let trial = smoothed(c.n, c.x, h, e, v, damping);
-    let met = trial.fault;
-    if met.number != 0 {
-        return answers::refused(met, 0);
-    }
-    let heights = trial.e;
-    let velocities = trial.u;
-    let reduced = trial.v;
-    let fluxes = trial.q;
-    let accelerations = trial.f;
-    store::keep_cells(c.n, e, u, v, &heights, &velocities, &reduced);
-    store::renew_levels(c.n, q, f, &fluxes, &accelerations);
-    answers::accepted(0)
 }
