@@ -19,24 +19,31 @@ pub fn step(
 ) -> rule::Left
     ensures { left c result h.now e.new u.new v.new q.new f.new damping.now ≡ step_call (counted c h.now e.old u.old v.old q.old f.old damping.now) s.now }
 {
-    let count = c.accepted;
-    let r = attempt::attempt(c, h, e, u, v, q, f, damping, s);
-    let answer = r.answer;
-    let refusal = answer.number;
-    if refusal != 0 {
-        return rule::Left {
-            answer,
-            accepted: count,
-        };
+    let lent = rule::Lent {
+        counts: c,
+        h,
+        e,
+        u,
+        v,
+        q,
+        f,
+        damping,
+    };
+    let step = match attempt::attempt(lent, s) {
+        Ok(step) => step,
+        Err(stopped) => {
+            return rule::Left {
+                answer: answers::refused(stopped.refusal, stopped.stage),
+                accepted: c.accepted,
+            };
+        }
+    };
+    let answer = answers::accepted(step.count);
+    let trial = &step.trial;
+    store::keep_cells(c.n, e, u, v, &trial.e, &trial.u, &trial.v);
+    store::push_levels(c.n, q, f, &trial.q, &trial.f);
+    rule::Left {
+        answer,
+        accepted: c.accepted + 1,
     }
-    let trial = r.trial;
-    let heights = trial.e;
-    let velocities = trial.u;
-    let reduced = trial.v;
-    let fluxes = trial.q;
-    let accelerations = trial.f;
-    store::keep_cells(c.n, e, u, v, &heights, &velocities, &reduced);
-    store::push_levels(c.n, q, f, &fluxes, &accelerations);
-    let accepted = count + 1;
-    rule::Left { answer, accepted }
 }

@@ -1,47 +1,17 @@
 -- `attempt::attempt` meets its contract: refused by the checks, complete, or as the stages end. Assumes nothing.
-use mathlib.Core.Path.{◌≡◌, sym, ◌∙◌, subst}
-use mathlib.Core.List.{[], ◌∷◌}
-use Rattle.rule.specs.Rows.{Row}
-use Rattle.rule.specs.Channel.{Channel}
-use Rattle.rule.specs.Counted.{counted}
-use Rattle.rule.specs.Refusals.{Fault}
-use Rattle.rule.specs.Refusals.{number_of}
-use Rattle.rule.specs.Checks.{checked}
-use Rattle.places.specs.Faults.{plain}
-use Rattle.checks.specs.Numbers.{numbered}
-use Rattle.stage.specs.Trials.{stopped}
-use Rattle.attempt.specs.Attempt.{Attempted, attempt_checked, attempt_complete, attempt_goes, stages_ask}
+use Rattle.rule.specs.Counted.{lent}
+use Rattle.places.specs.Met.{from_err}
+use Rattle.attempt.specs.Attempt.{attempt_checked, attempt_complete, attempt_goes, stages_ask}
 use Rattle.attempt.proofs.attempt.Goals as goal
-use Rattle.attempt.proofs.attempt.Goals.{Else-fault-ne0, Start}
 
-abbrev lent : Start → Channel
-lent s =
-    counted s.args.c s.args.h.now s.args.e.now s.args.u.now s.args.v.now s.args.q.now s.args.f.now s.args.damping.now
-
-abbrev poured : Start → Row
-poured s = s.args.s.now
-
-passed : (c : Else-fault-ne0) → let s = c.before.before.before in 0 ≡ number_of (checked (lent s) (poured s ∷ []))
-passed c = sym c.if-fault-ne0.false ∙ numbered c.before.before.check-fault.ensures
-
-pub returns-then-fault-ne0 : goal.returns-then-fault-ne0
-returns-then-fault-ne0 c =
-    let d = c.before.before.before in
-    let s = d.before in
-    let f : Fault = d.check-fault.result in
-    subst (Attempted (lent s) (poured s)) (sym c.refused.ensures) (attempt_checked (lent s) (poured s) f (stopped f) d.check-fault.ensures c.before.if-fault-ne0.true)
+pub returns-in_err-check : goal.returns-in_err-check
+returns-in_err-check c = rw (from_err _ _ c.from_residual.ensures.1) (attempt_checked (lent c.args.c) c.args.s.now _ c.in_err-check.ensures)
 
 pub returns-then-c : goal.returns-then-c
-returns-then-c c =
-    let s = c.before.before.before.before.before.before in
-    subst (Attempted (lent s) (poured s)) (sym c.refused-then-c.ensures) (attempt_complete (lent s) (poured s) (passed c.before.before.before) (stopped (plain 11)) c.before.if-c.true)
+returns-then-c c = rw c.into.ensures (attempt_complete (lent c.args.c) c.args.s.now _ c.in_ok-check.ensures c.if-c.true)
 
 pub advance-requires : goal.advance-requires
-advance-requires c =
-    let s = c.before.before.before.before.before in
-    stages_ask (lent s) (poured s) (passed c.before.before)
+advance-requires c = stages_ask (lent c.args.c) c.args.s.now _ c.in_ok-check.ensures
 
 pub returns : goal.returns
-returns c =
-    let s = c.before.before.before.before.before.before in
-    attempt_goes (lent s) (poured s) (passed c.before.before.before) c.advance.result c.before.if-c.false c.advance.ensures
+returns c = attempt_goes (lent c.args.c) c.args.s.now _ c.in_ok-check.ensures c.if-c.false c.advance.ensures
