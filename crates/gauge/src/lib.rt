@@ -174,6 +174,15 @@ impl From<Gauge> for [i64; 8] {
 
     #[tactic(auto, unfolding(crate::specs::State::numbers))]
     fn from(g: Gauge) -> [i64; 8] {
-        [g.cell, g.fed, g.last, g.crossings, g.highest, g.lowest, g.largest, g.sum]
+        [
+            g.cell,
+            g.fed,
+            g.last,
+            g.crossings,
+            g.highest,
+            g.lowest,
+            g.largest,
+            g.sum,
+        ]
     }
 }
