@@ -17,8 +17,7 @@ use Rattle.flux.proofs.plain_part.Goals.{After-weigh}
 
 abbrev sum : After-weigh → E
 sum c =
-    let s = c.before.before in
-    res 16_000_000_000_000_000 c.weigh.ensures (plain_sum 1_000_000_000_000_000 s.args.n s.args.p.now s.requires.0.small (omega arith) s.args.j s.requires.1)
+    res 16_000_000_000_000_000 c.weigh.ensures (plain_sum 1_000_000_000_000_000 c.args.n c.args.p.now c.requires.0.small (omega arith) c.args.j c.requires.1)
 
 pub weigh-requires : goal.weigh-requires
 unfolding sizes
