@@ -1,12 +1,12 @@
 -- The channel file: decimal text, as the rule writes it out and as the library writes a number of the machine. Assumes nothing.
-use Rattle.std.specs.Prelude.{ℕ, zero, suc, ◌+◌, ◌/◌, ◌%◌, ◌^◌, ◌≤◌, ◌<◌, ◌≡◌, List, [], ◌∷◌, ◌++◌, length, ℤ, pos, negsuc, nat_abs}
-use Rattle.std.proofs.Common.{arith, lt-ltb, le-ltb, sym, ap, ◌∙◌, SFits, to_z, of_z}
+use Rattle.std.specs.Prelude.{ℕ, zero, suc, ◌+◌, ◌*◌, ◌/◌, ◌%◌, ◌^◌, ◌≤◌, ◌<◌, ◌≡◌, List, [], ◌∷◌, ◌++◌, length, ℤ, pos, negsuc, nat_abs}
+use Rattle.std.proofs.Common.{pow-suc, arith, lt-ltb, le-ltb, sym, ap, ◌∙◌, length-append, SFits, to_z, of_z}
 use Rattle.std.proofs.Math.Decide.{dec_lt}
 use Rattle.std.specs.Int.Signed.{mag}
 use Rattle.std.specs.Int.{w64}
 use Rattle.std.proofs.lemmas.Int.{to_z-of_z}
 use Rattle.std.specs.Fmt.{decimal as printed, signed_decimal as signed_printed}
-use Rattle.std.proofs.lemmas.Fmt.{decimal_by_steps, length-decimal-le}
+use Rattle.std.proofs.lemmas.Fmt.{decimal_by_steps}
 use Rattle.rule.specs.Line.{digits, decimal, signed_decimal}
 
 -- a digit by itself, and the last digit after the others
@@ -32,11 +32,11 @@ enough zero k n h l = digits_one zero n (omega arith) ∙ sym (digits_one k n (o
 enough (suc m) zero n h l = digits_one (suc m) n (omega arith) ∙ sym (digits_one zero n (omega arith))
 enough (suc m) (suc k) n h l = enough_cases m k n h l (dec_lt n 10) (λ p q. enough m k (n / 10) p q)
 
-decimal_one : (n : ℕ) → n < 10 → decimal n ≡ (48 + n) ∷ []
+pub decimal_one : (n : ℕ) → n < 10 → decimal n ≡ (48 + n) ∷ []
 unfolding decimal
 decimal_one n h = digits_one n n h
 
-decimal_more : (n : ℕ) → 10 ≤ n → decimal n ≡ decimal (n / 10) ++ ((48 + n % 10) ∷ [])
+pub decimal_more : (n : ℕ) → 10 ≤ n → decimal n ≡ decimal (n / 10) ++ ((48 + n % 10) ∷ [])
 unfolding decimal
 decimal_more zero h = absurd (omega arith)
 decimal_more (suc m) h =
@@ -58,11 +58,24 @@ signed_is (negsuc n) h = ap (λ ds. 45 ∷ ds) (decimal_is (suc n) (omega arith)
 pub signed_read : {r z : ℤ} → SFits w64 r → r ≡ z → signed_printed (to_z w64 (of_z w64 r)) ≡ signed_decimal z
 signed_read {r} f e = ap signed_printed (to_z-of_z w64 r f) ∙ signed_is r f.sfits ∙ ap signed_decimal e
 
--- a number below 10 ^ k has at most k digits
-pub length-decimal : (k n : ℕ) → n < 10 ^ suc k → n < 2 ^ 64 → length (decimal n) ≤ suc k
-length-decimal k n h l = omega (arith, length-decimal-le (suc k) n (omega arith) h l, ap length (decimal_is n l))
+pub length-one : (n : ℕ) → n < 10 → length (decimal n) ≡ 1
+length-one n h = ap length (decimal_one n h)
 
-pub length-signed : (k : ℕ) (z : ℤ) → nat_abs z < 10 ^ suc k → nat_abs z < 2 ^ 63 → length (signed_decimal z) ≤ suc (suc k)
+pub length_more : (n : ℕ) → 10 ≤ n → length (decimal n) ≡ length (decimal (n / 10)) + 1
+length_more n h = ap length (decimal_more n h) ∙ length-append (decimal (n / 10)) ((48 + n % 10) ∷ [])
+
+-- a number below 10 ^ k has at most k digits
+places : (k n : ℕ) → Dec (n < 10) → (10 ≤ n → length (decimal (n / 10)) ≤ k) → length (decimal n) ≤ suc k
+places k n (yes p) h = omega (arith, length-one n p)
+places k n (no p) h = omega (arith, length_more n (omega arith), h (omega arith))
+
+pub length-decimal : (k n : ℕ) → n < 10 ^ suc k → length (decimal n) ≤ suc k
+length-decimal zero n h = places zero n (dec_lt n 10) (λ p. absurd (omega arith))
+length-decimal (suc k) n h =
+    let e : 10 ^ suc (suc k) ≡ 10 ^ suc k * 10 = pow-suc 10 (suc k) in
+    places (suc k) n (dec_lt n 10) (λ p. length-decimal k (n / 10) (omega arith))
+
+pub length-signed : (k : ℕ) (z : ℤ) → nat_abs z < 10 ^ suc k → length (signed_decimal z) ≤ suc (suc k)
 unfolding signed_decimal
-length-signed k (pos n) h l = omega (arith, length-decimal k n h (omega arith))
-length-signed k (negsuc n) h l = omega (arith, length-decimal k (suc n) h (omega arith))
+length-signed k (pos n) h = omega (arith, length-decimal k n h)
+length-signed k (negsuc n) h = omega (arith, length-decimal k (suc n) h)

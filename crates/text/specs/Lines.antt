@@ -71,9 +71,9 @@ counts_short {n} {accepted} {wanted} p =
       length_count n 32,
       length_count accepted 32,
       length_count wanted 32,
-      length-decimal 2 n (omega (arith, p.cells)) (omega (arith, p.cells)),
-      length-decimal 9 accepted (omega (arith, p.accepted_held)) (omega (arith, p.accepted_held)),
-      length-decimal 9 wanted (omega (arith, p.wanted_held)) (omega (arith, p.wanted_held)),
+      length-decimal 2 n (omega (arith, p.cells)),
+      length-decimal 9 accepted (omega (arith, p.accepted_held)),
+      length-decimal 9 wanted (omega (arith, p.wanted_held)),
     )
 
 length-cond : (b : Bool) (x y : List ℕ) → length x ≡ 5 → length y ≡ 5 → length (cond b x y) ≡ 5
@@ -90,7 +90,7 @@ module _ (e : Row) (w : Within most_height (length e) e) (l : length e ≤ most_
   sum_most = sum-within most_height most_cells e w l
 
   pub digits_short : length (signed_decimal (sum e)) ≤ 11
-  digits_short = length-signed 9 (sum e) (omega (arith, sum_most)) (omega (arith, sum_most))
+  digits_short = length-signed 9 (sum e) (omega (arith, sum_most))
 
   sum_short : length (sum_text e) ≤ 12
   unfolding sum_text
@@ -110,7 +110,7 @@ line_short {n} {accepted} {wanted} {e} p =
 
 pub refused_short : (k : ℕ) → k ≤ 38 → length (refused_of k) ≤ 64
 unfolding refused_of
-refused_short k h = omega (arith, length_count k 10, length-decimal 1 k (omega arith) (omega arith))
+refused_short k h = omega (arith, length_count k 10, length-decimal 1 k (omega arith))
 
 -- the two words
 pub is_done : (accepted wanted : ℕ) → accepted ≡ wanted → done_word ≡ state_text accepted wanted

@@ -6,7 +6,7 @@ use Rattle.text.specs.Lines.{refused_of, length_count}
 use Rattle.text.proofs.Pen.refused.Goals as goal
 
 pub count-requires : goal.count-requires
-count-requires c = let k = c.args.number in omega (arith, length_count k 10, length-decimal 1 k (omega arith) (omega arith))
+count-requires c = let k = c.args.number in omega (arith, length_count k 10, length-decimal 1 k (omega arith))
 
 pub returns : goal.returns
 unfolding refused_of
