@@ -1,5 +1,5 @@
 -- Refusal numbers: a run as the answers of its steps make it. Assumes nothing.
-use Rattle.std.specs.Prelude.{ℕ, zero, suc, ◌+◌, ◌-◌, ◌≤◌, ◌<◌, ◌≡◌, min, refl, Bool, true, false, cond, [], ◌∷◌, ltb, pos, length, take, replicate}
+use Rattle.std.specs.Prelude.{ℕ, zero, suc, ◌+◌, ◌-◌, ◌≤◌, ◌<◌, ◌≡◌, min, refl, Bool, true, false, cond, [], ◌∷◌, Ok, Err, ltb, pos, length, take, replicate}
 use Rattle.std.proofs.Common.{suc-add, sym, ◌∙◌, ap, add-one, arith, ltb-true, lt-ltb, le-ltb}
 use Rattle.std.proofs.Math.Decide.{dec_lt}
 use Rattle.rule.specs.declared.Answer.{Answer}
@@ -7,7 +7,7 @@ use Rattle.rule.specs.Refusals.{Fault}
 use Rattle.rule.specs.Rows.{Row}
 use Rattle.rule.specs.Channel.{Channel, moved}
 use Rattle.rule.specs.declared.Refusal.{Refusal}
-use Rattle.rule.specs.Refusals.{number_of, fault_of, Outcome, refused, done, ◌>>=◌}
+use Rattle.rule.specs.Refusals.{met, Outcome, refused, done, ◌>>=◌}
 use Rattle.rule.specs.Checks.{checked, is_complete}
 use Rattle.rule.specs.Step.{Stepped, step}
 use Rattle.rule.specs.Run.{Ending, Ran, whole, open_by, paused, run_on, run, run_for}
@@ -16,7 +16,8 @@ use Rattle.rule.specs.Ranges.{most_cells, most_steps}
 use Rattle.answers.specs.Stages.{leaves, early, stage_none}
 use Rattle.answers.specs.Ends.{ending_of}
 use Rattle.places.specs.Faults as faults
-use Rattle.checks.specs.Numbers.{number_not_0, numbered, done_of, refused_of_lem, Early}
+use Rattle.places.specs.Met.{met_done, met_number, met_refused}
+use Rattle.checks.specs.Numbers.{number_not_0, numbered, refused_of_lem, Early}
 use Rattle.checks.specs.Met.{checked_outside}
 use Rattle.checks.specs.Allowed.{allowed_of}
 
@@ -120,10 +121,10 @@ nothing_poured n h =
     ap (λ k. take n (replicate k (pos 0))) e ∙ take-replicate n (most_cells - n)
 
 -- a run whose channel is refused
-pub run_early : (most : ℕ) (c : Channel) (f : Fault) → f ≡ fault_of (checked c []) → (f.number ≡ 0 → ⊥) → leaves (early f) c ≡ run_for_call most c
-run_early most c f e z =
-    let y = refused_of_lem Early f (checked c []) (checked_outside c []) e z in
-    (λ i. leaves (answer (y.tells i) (stage_none f.number y.such i) 0) c) ∙ run_refused most c y.why y.is
+pub run_early : (most : ℕ) (c : Channel) (r : Refusal) → Err r ≡ met (checked c []) → leaves (early (faults.told r)) c ≡ run_for_call most c
+run_early most c r e =
+    let y = refused_of_lem Early (faults.told r) (checked c []) (checked_outside c []) (met_refused _ r e) (number_not_0 r) in
+    (λ i. leaves (answer (y.tells i) (stage_none _ y.such i) 0) c) ∙ run_refused most c y.why y.is
 
 module _ (most : ℕ) (start : Channel) where
   abbrev pub now : ℕ → Row → Row → Row → Row → Row → Channel
@@ -178,9 +179,9 @@ module _ (most : ℕ) (start : Channel) where
             going = goes (told (now accepted e u v q f) (left - 1) count r after p) d;
           }
 
-pub run_starts : (most : ℕ) (c : Channel) → 0 ≡ number_of (checked c []) → Running most c c.accepted c.e c.u c.v c.Q c.F 0 (fewer_of most (c.wanted - c.accepted))
+pub run_starts : (most : ℕ) (c : Channel) {a : Unit {0}} → Ok a ≡ met (checked c []) → Running most c c.accepted c.e c.u c.v c.Q c.F 0 (fewer_of most (c.wanted - c.accepted))
 run_starts most c e =
-    let a = allowed_of c [] (sym e) in
+    let a = allowed_of c [] (met_number (checked c []) _ e) in
     record {
       few = a.cells.most;
       counted = omega (arith, fewer_fits most (c.wanted - c.accepted), a.counts.wanted_most);
@@ -189,8 +190,8 @@ run_starts most c e =
       v_long = refl;
       q_long = refl;
       f_long = refl;
-      going = run_goes most c (done_of (checked c []) (sym e));
+      going = run_goes most c (met_done (checked c []) _ e);
     }
 
-pub run_room : (c : Channel) → 0 ≡ number_of (checked c []) → c.accepted ≤ c.wanted
-run_room c e = (allowed_of c [] (sym e)).counts.accepted_most
+pub run_room : (c : Channel) {a : Unit {0}} → Ok a ≡ met (checked c []) → c.accepted ≤ c.wanted
+run_room c e = (allowed_of c [] (met_number (checked c []) _ e)).counts.accepted_most

@@ -19,10 +19,19 @@ pub fn run_for(
 ) -> rule::Left
     ensures { left c result h.now e.new u.new v.new q.new f.new damping.now ≡ run_for_call most (counted c h.now e.old u.old v.old q.old f.old damping.now) }
 {
-    let fault = checks::check(c, h, e, u, v, q, f, damping, false, h);
-    if fault.number != 0 {
+    let lent = rule::Lent {
+        counts: c,
+        h,
+        e,
+        u,
+        v,
+        q,
+        f,
+        damping,
+    };
+    if let Err(refusal) = checks::check(lent, None) {
         return rule::Left {
-            answer: answers::refused(fault, 0),
+            answer: answers::refused(refusal, 0),
             accepted: c.accepted,
         };
     }

@@ -4,22 +4,21 @@ use native.Mathlib.Omega.{arith}
 use Prim.Native.Nat.{◌+◌, ◌-◌}
 use Rattle.rule.specs.Counted.{counted}
 use Rattle.rule.specs.Calls.{step_call, ended}
-use Rattle.checks.specs.Numbers.{numbered}
 use Rattle.answers.specs.Stages.{leaves}
 use Rattle.answers.specs.Ends.{ending_of}
 use Rattle.run_for.specs.Runs.{Running, nothing_poured, now, min_fewer, run_early, run_starts, run_room, run_stops, run_on_lem, run_ends}
 use Rattle.run_for.proofs.run_for.Goals as goal
 
-pub returns-then-fault-ne0 : goal.returns-then-fault-ne0
-returns-then-fault-ne0 c =
+pub returns-in-Err : goal.returns-in-Err
+returns-in-Err c =
     let s = c.args in
     let lent = counted s.c s.h.now s.e.now s.u.now s.v.now s.q.now s.f.now s.damping.now in
-    ap (λ a. leaves a lent) c.refused.ensures ∙ run_early s.most lent c.check-fault.result c.check-fault.ensures c.if-fault-ne0.true
+    ap (λ a. leaves a lent) c.refused.ensures ∙ run_early s.most lent _ c.in-Err.ensures
 
 pub overflow_sub-c : goal.overflow_sub-c
 overflow_sub-c c =
     let s = c.args in
-    run_room (counted s.c s.h.now s.e.now s.u.now s.v.now s.q.now s.f.now s.damping.now) (sym c.if-fault-ne0.false ∙ numbered c.check-fault.ensures)
+    run_room (counted s.c s.h.now s.e.now s.u.now s.v.now s.q.now s.f.now s.damping.now) c.in_default.ensures
 
 pub loop-count-init : goal.loop-count-init
 loop-count-init c =
@@ -27,7 +26,7 @@ loop-count-init c =
     let lent = counted s.c s.h.now s.e.now s.u.now s.v.now s.q.now s.f.now s.damping.now in
     let steps = c.min-steps.ensures ∙ min_fewer s.most (s.c.wanted - s.c.accepted) in
     let all : c.min-steps.result ≡ c.min-steps.result - 0 = omega arith in
-    subst (Running s.most lent s.c.accepted s.e.now s.u.now s.v.now s.q.now s.f.now 0) (sym steps ∙ all) (run_starts s.most lent (sym c.if-fault-ne0.false ∙ numbered c.check-fault.ensures))
+    subst (Running s.most lent s.c.accepted s.e.now s.u.now s.v.now s.q.now s.f.now 0) (sym steps ∙ all) (run_starts s.most lent c.in_default.ensures)
 
 pub returns-then-r-ne0 : goal.returns-then-r-ne0
 returns-then-r-ne0 c =
