@@ -1,17 +1,19 @@
 -- The channel file: a call on its channel, whichever it is, and over its bytes. Assumes nothing.
-use Rattle.std.specs.Prelude.{ℕ, ◌≤◌, ◌≡◌, refl, Bool, true, false, List, [], length, get_or}
+use Rattle.std.specs.Prelude.{ℕ, ◌≤◌, ◌≡◌, refl, Bool, true, false, List, [], Err, length, get_or}
 use Rattle.std.proofs.Common.{sym, ◌∙◌}
 use Rattle.std.proofs.Math.Path.{ap}
 use Rattle.rule.specs.declared.Answer.{Answer}
+use Rattle.rule.specs.declared.Refusal.{Refusal}
 use Rattle.rule.specs.Rows.{Row}
 use Rattle.rule.specs.Channel.{Channel}
-use Rattle.rule.specs.Refusals.{Outcome, refused, done, number_of, place_of, fault_of}
+use Rattle.rule.specs.Refusals.{Outcome, refused, done, number_of, met, met_as}
 use Rattle.rule.specs.Checks.{checked}
 use Rattle.rule.specs.Layout.{length_of}
 use Rattle.rule.specs.File.{edition, count_of, channel_of, read_with}
 use Rattle.rule.specs.Calls.{Called, on_file, row_in, step_call, filter_call, run_for_call, step_file, filter_file, run_for_file}
 use Rattle.rule.specs.Ranges.{least_cells, most_cells}
 use Rattle.answers.specs.Stages.{refusal, early, early_is, leaves_bytes}
+use Rattle.places.specs.Met.{as_refused}
 use Rattle.checks.specs.Numbers.{told, Outside}
 use Rattle.checks.specs.Allowed.{poured_rows, unpoured}
 use Rattle.form.specs.Reader.{fits_in}
@@ -62,11 +64,13 @@ same_poured Step r s c e = ap (λ rows. step_call c (get_or rows 0 [])) e
 same_poured Filter r s c e = refl
 same_poured (Run most) r s c e = refl
 
--- an answer of the reader that refuses
-by_refused : (f : Channel → Called Channel) (s : List ℕ) (m : Outcome Channel) → Outside m → (r : Answer) → r ≡ early (fault_of m) → (r.number ≡ 0 → ⊥) → leaves_bytes r s ≡ on_file f s m
-unfolding on_file number_of place_of
-by_refused f s (refused why k) h r e z = ap (λ a. leaves_bytes a s) (e ∙ early_is why h.1 ∙ ap (refusal (told why)) (sym h.0))
-by_refused f s (done c) h r e z = absurd (z (ap (λ (a : Answer). a.number) e))
+-- what the reader refuses
+by_refused : (f : Channel → Called Channel) (s : List ℕ) (m : Outcome Channel) → Outside m → (r : Refusal) → Err r ≡ met m → leaves_bytes (early (told r)) s ≡ on_file f s m
+unfolding on_file met
+by_refused f s (refused why k) h r e =
+    let is : r ≡ why = cc e in
+    ap (λ a. leaves_bytes a s) (ap (λ q. early (told q)) is ∙ early_is why h.1 ∙ ap (refusal (told why)) (sym h.0))
+by_refused f s (done c) h r e = cc e
 
 -- what a call on the channel of a file s of n cells asks: that the reader takes it, with the row in the bytes p
 pub record Takes (call : Call) (n : ℕ) (s p : List ℕ) : Type 0 where
@@ -85,9 +89,11 @@ module _ (call : Call) (s p : List ℕ) where
   Taken = Opened (fits_in (pours_of call) p) (poured_rows (pours_of call) (row_in p)) s
 
   -- bytes that the reader refuses
-  pub refused_by : (r : Answer) → r ≡ early (fault_of (read_with fits (poured_rows (pours_of call) (row_in p)) s)) → (r.number ≡ 0 → ⊥) → leaves_bytes r s ≡ file_call call s p
+  pub refused_by : (r : Refusal) → Err r ≡ met_as {B = Unit {0}} (λ _. tt) (read_with fits (poured_rows (pours_of call) (row_in p)) s) → leaves_bytes (early (told r)) s ≡ file_call call s p
   unfolding file_call
-  refused_by r e z = by_refused (call_of call (row_in p)) s (read_with fits (poured_rows (pours_of call) (row_in p)) s) (read_outside fits (poured_rows (pours_of call) (row_in p)) s) r e z
+  refused_by r e =
+      let m = read_with fits (poured_rows (pours_of call) (row_in p)) s in
+      by_refused (call_of call (row_in p)) s m (read_outside fits (poured_rows (pours_of call) (row_in p)) s) r (as_refused (λ _. tt) m r e)
 
   -- and those that it takes
   pub takes_of : Taken → (n : ℕ) → n ≡ count_of s 1 → Takes call n s p

@@ -38,7 +38,7 @@ pub fn in_arrays(call: call::Call, n: usize, file: &mut [u8], poured: &[u8]) -> 
 {
     let faces = 3 * (n - 1);
     let cells = 3 * n;
-    let s = opened::poured_row(call::pours(call), poured, n);
+    let s = opened::poured_row(call::pours(call).then_some(poured), n);
     let mut h = [0i64; rule::MOST_CELLS];
     let mut e = [0i64; rule::MOST_CELLS];
     let mut u = [0i64; rule::MOST_CELLS];

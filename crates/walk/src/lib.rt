@@ -13,9 +13,8 @@ pub fn walk(call: call::Call, file: &mut [u8], poured: &[u8]) -> rule::Answer
     ensures file_after { leaves_bytes result file.new ≡ file_call call file.old poured.now }
     ensures are_bytes { AreBytes file.old }
 {
-    let answer = reader::answer(file, call::pours(call), poured);
-    if answer.number != 0 {
-        return answer;
+    if let Err(refusal) = reader::check(file, call::pours(call).then_some(poured)) {
+        return answers::refused(refusal, 0);
     }
     let c = opened::counts(file);
     in_arrays::in_arrays(call, c.n, file, poured)
