@@ -13,7 +13,7 @@ pub fn check(s: &[u8]) -> rule::Answer
     ensures value { result ≡ check_file s.now }
     ensures are_bytes { AreBytes s.now }
 {
-    reader::answer(s, false, s)
+    reader::answer(s, None)
 }
 
 // One step, with a row poured. The file becomes that of the channel after it, or stays as it was.
@@ -48,8 +48,7 @@ pub fn run(file: &mut [u8]) -> usize
     ensures file_after { (take result file.new ≡ run_file file.old) × ((result ≡ length (run_file file.old)) × (file.new ≡ in_buffer file.old (run_file file.old))) }
     ensures are_bytes { AreBytes file.old }
 {
-    let number = reader::check(file, false, file).number;
-    if number != 0 {
+    if reader::check(file, None).is_err() {
         return 0;
     }
     run_for(rule::MOST_STEPS, file);

@@ -38,7 +38,7 @@ pub fn pathpetal_check(file: &[u8]) -> u64
     ensures value { result ≡ packed (check_file file.now) }
     ensures are_bytes { AreBytes file.now }
 {
-    packing::pack(reader::answer(file, false, file))
+    packing::pack(reader::answer(file, None))
 }
 
 // One step, with a row poured.

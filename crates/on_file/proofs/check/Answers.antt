@@ -4,4 +4,4 @@ use Rattle.reader.specs.Ways.{check_is}
 use Rattle.on_file.proofs.check.Goals as goal
 
 pub returns-clause-value : goal.returns-clause-value
-returns-clause-value c = c.answer.ensures ∙ check_is c.args.s.now c.args.s.now
+returns-clause-value c = c.answer.ensures ∙ check_is c.args.s.now

@@ -11,9 +11,9 @@ use Rattle.pathpetal.proofs.pathpetal_check.Goals.{After-answer}
 pub pack-requires : goal.pack-requires
 pack-requires c =
     let s = c.args.file.now in
-    subst Small (sym (c.answer.ensures ∙ check_is s s)) (check_answer _)
+    subst Small (sym (c.answer.ensures ∙ check_is s)) (check_answer _)
 
 pub returns-clause-value : goal.returns-clause-value
 returns-clause-value c =
     let s = c.args.file.now in
-    c.pack.ensures ∙ ap packed (c.answer.ensures ∙ check_is s s)
+    c.pack.ensures ∙ ap packed (c.answer.ensures ∙ check_is s)
