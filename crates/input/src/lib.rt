@@ -1,7 +1,7 @@
 // Standard input, or another reader, read to its end.
 #![tactic(auto)]
 
-ghost use Rattle.std.specs.Prelude.{◌≤◌, ◌<◌, take, length, IfOk};
+ghost use Rattle.std.specs.Prelude.{◌≡◌, ◌≤◌, ◌<◌, take, length, IfOk};
 ghost use Rattle.std.specs.Io.KnownBytes.{Consumes, IsAtEnd};
 ghost use Rattle.input.specs.Given.{count_given};
 
@@ -21,6 +21,7 @@ pub struct Cut {
 // buffer is what the reader gave, also where a read failed; and where none did and the buffer is not full, the reader has no more.
 pub fn read<R: Read>(reader: &mut R, buf: &mut [u8]) -> Result<usize, Cut>
     ensures in_bounds { count_given result ≤ length buf.new }
+    ensures prefix { count_given result ≡ length (take (count_given result) buf.new) }
     ensures bytes { Consumes (R.remaining reader.old) (R.remaining reader.new) (take (count_given result) buf.new) }
     ensures end { IfOk result (λ end. end < length buf.new → IsAtEnd (R.remaining reader.new)) }
 {
