@@ -44,6 +44,7 @@ fn pass(c: rule::Lent) -> Result<stage::Trial, rule::Refusal>
 }
 
 // All is worked out before anything is stored. A refused call leaves the lent rows as they were.
+// The rows are lent one by one, as a user's call has them: its theorems speak of each.
 pub fn filter(
     c: rule::Counts,
     h: &[i64],

@@ -11,6 +11,7 @@ ghost use Rattle.gauge_state.specs.Left.{leaves_row};
 ghost use Rattle.gauges.specs.Files.{Held};
 
 // A gauge placed at a cell, counted from 1, of the channel in lent rows. The count of the answer is the gauge's place, 1 to 8.
+// The rows are lent one by one, as a user's call has them: its theorems speak of each.
 pub fn place(
     c: rule::Counts,
     h: &[i64],
@@ -42,6 +43,7 @@ pub fn place(
 }
 
 // Each gauge fed the height at its cell, of the channel in lent rows.
+// The rows are lent one by one, as a user's call has them: its theorems speak of each.
 pub fn feed(
     c: rule::Counts,
     h: &[i64],

@@ -26,6 +26,7 @@ pub fn read<R: Read>(reader: &mut R, buf: &mut [u8]) -> Result<usize, Cut>
     ensures end { IfOk result (λ end. end < length buf.new → IsAtEnd (R.remaining reader.new)) }
 {
     let mut end = 0;
+    // By what each read gives, which may be less than there is room for, and no count; std's `read_to_end` needs the heap.
     while end < buf.len() {
         match reader.read(&mut buf[end..]) {
             Ok(0) => return Ok(end),

@@ -50,6 +50,7 @@ pub fn fill(
 
 // Of the lent rows h, e, u and damping are read, the others are filled; no step of what is made is accepted. A refused call leaves them
 // all, and the count of accepted steps, as they were.
+// The rows are lent one by one, as a user's call has them: its theorems speak of each.
 pub fn make(
     c: rule::Counts,
     h: &[i64],

@@ -21,7 +21,7 @@ fn check_lent(s: &[u8], c: rule::Lent) -> Result<(), rule::Refusal>
     reader::body(s, counts.n, None)
 }
 
-// What a reader leaves beside the rows: its answer, and the counts.
+// What a reader leaves beside the rows: its answer, and the counts. The answer is a number's, as C is given it.
 #[derive(Drop)]
 pub struct Reading {
     pub answer: rule::Answer,
@@ -30,6 +30,7 @@ pub struct Reading {
 
 // What the file s holds, in the lent rows and in place of the counts c. A refused call leaves them all as they were. The
 // contract says last that what is read are bytes, as the language knows of any `[u8]`.
+// The rows are lent one by one, as a user's call has them: its theorems speak of each.
 pub fn read(
     s: &[u8],
     c: rule::Counts,

@@ -6,6 +6,7 @@ ghost use Rattle.rule.specs.Counted.{counted, left};
 ghost use Rattle.rule.specs.Calls.{run_call};
 
 // All steps that are left.
+// The rows are lent one by one, as a user's call has them: its theorems speak of each.
 pub fn run(
     c: rule::Counts,
     h: &[i64],

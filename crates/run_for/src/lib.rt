@@ -6,6 +6,7 @@ ghost use Rattle.rule.specs.Counted.{counted, left};
 ghost use Rattle.rule.specs.Calls.{run_for_call};
 
 // At most `most` steps, for a caller who stops between calls.
+// The rows are lent one by one, as a user's call has them: its theorems speak of each.
 pub fn run_for(
     most: u64,
     c: rule::Counts,

@@ -6,6 +6,7 @@ ghost use Rattle.rule.specs.Counted.{counted, left};
 ghost use Rattle.rule.specs.Calls.{step_call};
 
 // One step with s poured: the rows and the count of accepted steps become the rule's, or stay as they were.
+// The rows are lent one by one, as a user's call has them: its theorems speak of each.
 pub fn step(
     c: rule::Counts,
     h: &[i64],

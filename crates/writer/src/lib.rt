@@ -20,6 +20,7 @@ fn fits(c: rule::Lent, room: usize) -> Result<(), rule::Refusal>
 }
 
 // A channel's file, written into a buffer of exactly its length. A refused call leaves the buffer as it was.
+// The rows are lent one by one, as a user's call has them: its theorems speak of each.
 pub fn write(
     c: rule::Counts,
     h: &[i64],
