@@ -2,9 +2,9 @@
 use Rattle.std.specs.Prelude.{ℕ, suc, ◌+◌, ◌-◌, ◌≤◌, ◌<◌, ◌≡◌, true, false, Result, Ok, Err, IfOk, IfErr}
 use Rattle.std.proofs.Math.Path.{refl}
 use Rattle.std.proofs.Common.{sym, ◌∙◌, ap, add-one, arith}
-use Rattle.whole.specs.Row.{length_tab}
+use Rattle.whole.specs.Row.{length_tab, Within}
 use Rattle.rule.specs.Rows.{Row}
-use Rattle.rule.specs.Ranges.{most_height, most_velocity, most_flux, most_acceleration, most_cells}
+use Rattle.rule.specs.Ranges.{most_height, most_velocity, most_flux, most_acceleration, most_damping, least_cells, most_cells, least_width}
 use Rattle.rule.specs.Channel.{Channel}
 use Rattle.rule.specs.declared.Refusal.{Refusal}
 use Rattle.rule.specs.declared.Refusal.TheVariants.{Unsettled}
@@ -13,7 +13,7 @@ use Rattle.rule.specs.Step as rule
 use Rattle.motion.specs.Asked.{Settling}
 use Rattle.stage.specs.declared.Trial.{Trial}
 use Rattle.stage.specs.Trials.{trial_of, rows_of}
-use Rattle.stage.specs.Asked.{Staging, Before}
+use Rattle.stage.specs.Asked.{Before}
 use Rattle.stage.specs.Stages.{Sound, tried_sound}
 use Rattle.checks.specs.Numbers.{Met}
 use Rattle.stage.specs.Met.{tried_met}
@@ -27,6 +27,11 @@ use Rattle.advance.specs.Steps.{stages, stages_refused, stages_done, correction_
 abbrev pub outcome_of : Channel → Result Advanced Stopped → Outcome rule.Stepped
 outcome_of c (Ok a) = done (record { channel = rule.accept c (rows_of c.N a.trial); passes = a.count })
 outcome_of c (Err t) = refused t.refusal t.stage
+
+-- what is answered, with the step that is left where it is accepted
+abbrev pub left_in : Result (Unit {0}) Stopped → Advanced → Result Advanced Stopped
+left_in (Ok x) a = Ok a
+left_in (Err t) a = Err t
 
 -- a refusal is met at its stage
 abbrev pub AtStage : Stopped → Type 0
@@ -73,10 +78,6 @@ module _ (c : Channel) (s : Row) where
     pub kept : Kept c.N old
     pub is : rule.corrections c s (11 - k) k (rows_of c.N old) ≡ stages c s
 
-  stage_sound : Staging c s → (w : rule.Weights) (q f : Row) (z : rule.Trial) → rule.stage c s w q f ≡ done z → Sound c.N z
-  unfolding rule.stage rule.raised rule.hastened
-  stage_sound g w q f z p = tried_sound c _ _ z g.least g.narrow (length_tab c.N _) (length_tab c.N _) g.damping_small p
-
   stage_refuses : (w : rule.Weights) (q f : Row) → Met 4 9 (rule.stage c s w q f)
   unfolding rule.stage
   stage_refuses w q f = tried_met c _ _
@@ -88,11 +89,15 @@ module _ (c : Channel) (s : Row) where
       let y = why_refused c.N (rule.prediction c s) (stage_refuses _ _ _) r e in
       record { is = stages_refused c s r y.0; kept = tt; at_stage = stage_met (number r) 0 y.1.0 y.1.1 }
 
-  module _ (g : Staging c s) where
+  module _ (least : least_cells ≤ c.N) (most : c.N ≤ most_cells) (wide : least_width ≤ c.X) (dampings : Within most_damping c.N c.damping) where
+    stage_sound : (w : rule.Weights) (q f : Row) (z : rule.Trial) → rule.stage c s w q f ≡ done z → Sound c.N z
+    unfolding rule.stage rule.raised rule.hastened
+    stage_sound w q f z p = tried_sound c _ _ z least wide (length_tab c.N _) (length_tab c.N _) dampings p
+
     pub predicted : (t : Trial) → Ok t ≡ met_as (trial_of c.N) (rule.prediction c s) → Going 1 t
     unfolding rule.prediction
     predicted t e =
-        let y = returned c.N g.most (rule.prediction c s) (stage_sound g _ _ _) t e in
+        let y = returned c.N most (rule.prediction c s) (stage_sound _ _ _) t e in
         record { kept = y.kept; is = stages_done c s (rows_of c.N t) y.is }
 
     -- a correction
@@ -110,7 +115,7 @@ module _ (c : Channel) (s : Row) where
       module _ (new : Trial) (e : Ok new ≡ met_as (trial_of c.N) (rule.correction c s (rows_of c.N old))) where
         pub corrected : Returned c.N new (rule.correction c s (rows_of c.N old))
         unfolding rule.correction
-        corrected = returned c.N g.most (rule.correction c s (rows_of c.N old)) (stage_sound g _ _ _) new e
+        corrected = returned c.N most (rule.correction c s (rows_of c.N old)) (stage_sound _ _ _) new e
 
         pub corrected_settled : rule.settled c.N (rows_of c.N new) (rows_of c.N old) ≡ true → Advances (Ok (record { count = k; trial = new }))
         corrected_settled d =

@@ -4,7 +4,7 @@
 ghost use Rattle.std.specs.Prelude.{◌≡◌};
 ghost use Rattle.rule.specs.Counted.{lent};
 ghost use Rattle.stage.specs.Asked.{Staging};
-ghost use Rattle.advance.specs.Advance.{Advances};
+ghost use Rattle.advance.specs.Advance.{left_in, Advances};
 
 // An accepted step: the count of its corrections, and the trial that settled.
 #[derive(Drop)]
@@ -28,24 +28,25 @@ impl From<rule::Refusal> for Stopped {
     }
 }
 
-// A correction uses the trial Q and F of the stage before.
-pub fn advance(c: rule::Lent, s: &[i64]) -> Result<Advanced, Stopped>
+// A correction uses the trial Q and F of the stage before. An accepted step is left in what is lent, where every trial takes the
+// place of the one before: a trial that is answered by value is 10 KiB of stack, cleared and copied, in each function that it passes.
+pub fn advance(c: rule::Lent, s: &[i64], step: &mut Advanced) -> Result<(), Stopped>
     requires { Staging (lent c) s.now }
-    ensures { Advances (lent c.entry) s.now result }
+    ensures { Advances (lent c.entry) s.now (left_in result step.new) }
 {
-    let mut old = stage::prediction(c, s)?;
+    step.trial = stage::prediction(c, s)?;
     for k in 1..=10 {
-        let new = match stage::correction(c, s, &old) {
+        let before = &step.trial;
+        let new = match stage::correction(c, s, before) {
             Ok(new) => new,
             Err(refusal) => return Err(Stopped { refusal, stage: k }),
         };
-        if new.settled(c.counts.n, &old) {
-            return Ok(Advanced {
-                count: k,
-                trial: new,
-            });
+        let settled = new.settled(c.counts.n, before);
+        step.trial = new;
+        if settled {
+            step.count = k;
+            return Ok(());
         }
-        old = new;
     }
     Err(Stopped {
         refusal: rule::Refusal::Unsettled,

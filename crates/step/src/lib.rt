@@ -30,15 +30,23 @@ pub fn step(
         f,
         damping,
     };
-    let step = match attempt::attempt(lent, s) {
-        Ok(step) => step,
-        Err(stopped) => {
-            return rule::Left {
-                answer: answers::refused(stopped.refusal, stopped.stage),
-                accepted: c.accepted,
-            };
-        }
+    let row = [0; rule::MOST_CELLS];
+    let mut step = advance::Advanced {
+        count: 0,
+        trial: stage::Trial {
+            e: row,
+            v: row,
+            u: row,
+            q: row,
+            f: row,
+        },
     };
+    if let Err(stopped) = attempt::attempt(lent, s, &mut step) {
+        return rule::Left {
+            answer: answers::refused(stopped.refusal, stopped.stage),
+            accepted: c.accepted,
+        };
+    }
     let answer = answers::accepted(step.count);
     let trial = &step.trial;
     store::keep_cells(c.n, e, u, v, &trial.e, &trial.u, &trial.v);

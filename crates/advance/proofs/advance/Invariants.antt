@@ -4,4 +4,4 @@ use Rattle.advance.specs.Advance.{Going}
 use Rattle.advance.proofs.advance.Given as goal
 
 abbrev pub invariant-loop-k : goal.invariant-loop-k
-invariant-loop-k l = Going (lent l.c) l.s l.k l.old
+invariant-loop-k l = Going (lent l.c) l.s l.k l.step.trial

@@ -1,7 +1,7 @@
--- `store::lower` meets its contract. Assumes nothing.
-use Rattle.std.proofs.Common.{◌∙◌}
-use Rattle.store.specs.Levels.{lowered_is}
+-- `store::lower` meets its contract. The entries from j on have moved. Assumes nothing.
+use Rattle.std.proofs.Common.{arith}
+use Rattle.store.specs.Levels.{lowered_end}
 use Rattle.store.proofs.lower.Goals as goal
 
 pub returns : goal.returns
-returns c = c.copy_within.ensures.after ∙ lowered_is c.args.m c.args.levels.now c.requires.1
+returns c = lowered_end c.requires.1 c.loop-j.invariant.0 (omega arith) c.loop-j.invariant.2
