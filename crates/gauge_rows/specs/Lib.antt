@@ -1,3 +1,2 @@
-pub mod Passes
 pub mod Chunks
 pub mod Bounds

@@ -7,8 +7,8 @@ ghost use Rattle.rule.specs.Ranges.{most_height};
 ghost use Rattle.rule.specs.Rows.{map, lowest};
 ghost use Rattle.gauge.specs.declared.Gauge.{Gauge};
 ghost use Rattle.gauge.specs.Gauge.{right};
-ghost use Rattle.gauge.specs.State.{state_numbers, numbers, gauge_at, gauges_in, flat, stands_in, fed_from, reading};
-ghost use Rattle.gauge_rows.specs.Passes.{Tells};
+ghost use Rattle.std.specs.Int.Signed.{le_z};
+ghost use Rattle.gauge.specs.State.{state_numbers, numbers, gauge_at, gauges_in, flat, taken, stands_in, has_room, fed_from, reading};
 ghost use Rattle.places.specs.Lowest.{found};
 ghost use Rattle.little.specs.Written.{written};
 ghost use Rattle.gauge_rows.specs.Bounds.{Feeds, Reads};
@@ -43,15 +43,74 @@ fn put_reading(row: &mut [i64], at: usize, g: Gauge)
     row[at..at + 6].copy_from_slice(&[g.cell, g.fed, g.crossings, g.waves(), g.largest, g.sum]);
 }
 
+// What is asked of the gauge at each place. A closure in its place would have to be one that may be called, and would answer
+// what it pleases; a test answers what its kind says, so that the lowest place is settled.
+pub trait Test {
+    // What passes.
+    ghost passes: { Self → Gauge → Bool };
+
+    fn passes(&self, g: Gauge) -> bool
+        ensures { result ≡ passes self.now g };
+}
+
+// Its numbers are a gauge's, or all 0.
+#[derive(Clone, Copy, Drop)]
+pub struct Right;
+
+impl Test for Right {
+    ghost passes = { λ t g. right g };
+
+    fn passes(&self, g: Gauge) -> bool {
+        g.right()
+    }
+}
+
+// It has a gauge.
+#[derive(Clone, Copy, Drop)]
+pub struct Taken;
+
+impl Test for Taken {
+    ghost passes = { λ t g. taken g };
+
+    #[tactic(auto, unfolding(gauge::specs::State::taken))]
+    fn passes(&self, g: Gauge) -> bool {
+        !g.is_empty()
+    }
+}
+
+// Its cell is one of so many.
+#[derive(Clone, Copy, Drop)]
+pub struct Stands(pub i64);
+
+impl Test for Stands {
+    ghost passes = { λ t g. le_z g.cell t.0 };
+
+    fn passes(&self, g: Gauge) -> bool {
+        g.cell <= self.0
+    }
+}
+
+// One height more can be fed to it.
+#[derive(Clone, Copy, Drop)]
+pub struct Room;
+
+impl Test for Room {
+    ghost passes = { λ t g. has_room g };
+
+    #[tactic(auto, unfolding(gauge::specs::State::has_room))]
+    fn passes(&self, g: Gauge) -> bool {
+        g.fed < gauge::MOST_FED
+    }
+}
+
 // The lowest place, counted from 1, whose gauge does not pass.
-pub fn first_not<F: Fn(Gauge) -> bool>(row: &[i64], passes: F) -> Option<u64>
-    requires long { length row.now ≡ state_numbers }
-    requires callable { F.IsAlwaysCallable passes }
-    ensures { (p : Gauge → Bool) → Tells (F.post passes) p row.now → result ≡ found (lowest p (gauges_in row.now)) }
+pub fn first_not<T: Test>(row: &[i64], test: &T) -> Option<u64>
+    requires { length row.now ≡ state_numbers }
+    ensures { result ≡ found (lowest (T.passes test.now) (gauges_in row.now)) }
 {
     let mut place = None;
     for k in 0..8 {
-        place = places::lower(place, passes(gauge_at(row, k)), k);
+        place = places::lower(place, test.passes(gauge_at(row, k)), k);
     }
     place
 }

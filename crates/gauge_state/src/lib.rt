@@ -12,11 +12,11 @@ ghost use Rattle.gauge.specs.declared.Gauge.{Gauge};
 ghost use Rattle.gauge.specs.Gauge.{gauge_of};
 ghost use Rattle.gauge.specs.State.{state_length, state_row, gauges_of, formed, free, placeable, placed, feedable, fed, readable};
 ghost use Rattle.gauge.specs.OnGauges.{read_state};
-ghost use Rattle.gauge_rows.specs.Passes.{Tells};
 ghost use Rattle.places.specs.Lowest.{found};
 ghost use Rattle.gauge_state.specs.Left.{leaves_row};
 
 use gauge::Gauge;
+use gauge_rows::{Right, Room, Stands, Taken, Test};
 use rule::Refusal;
 
 // How many numbers the places have, and how many bytes.
@@ -38,13 +38,11 @@ fn opened(gauges: &[u8]) -> [i64; NUMBERS]
 }
 
 // The lowest place, counted from 1, whose gauge does not pass.
-fn first_not<F: Fn(Gauge) -> bool>(gauges: &[u8], passes: F) -> Option<u64>
-    requires long { length gauges.now ≡ state_length }
-    requires callable { F.IsAlwaysCallable passes }
-    ensures { (p : Gauge → Bool) → Tells (F.post passes) p (state_row gauges.now) → result ≡ found (lowest p (gauges_of gauges.now)) }
+fn first_not<T: Test>(gauges: &[u8], test: &T) -> Option<u64>
+    requires { length gauges.now ≡ state_length }
+    ensures { result ≡ found (lowest (T.passes test.now) (gauges_of gauges.now)) }
 {
-    let row = opened(gauges);
-    gauge_rows::first_not(&row, passes)
+    gauge_rows::first_not(&opened(gauges), test)
 }
 
 // 12, then 14.
@@ -54,10 +52,7 @@ fn formed(gauges: &[u8]) -> Result<(), Refusal>
     if gauges.len() != LENGTH {
         return Err(Refusal::GaugesLength);
     }
-    places::require(
-        first_not(gauges, Gauge::right).is_none(),
-        Refusal::GaugesValue,
-    )
+    places::require(first_not(gauges, &Right).is_none(), Refusal::GaugesValue)
 }
 
 // The place of a gauge that is placed at a cell of n, or those, then 20, then 21.
@@ -65,7 +60,7 @@ fn placeable(n: usize, cell: u64, gauges: &[u8]) -> Result<u64, Refusal>
     ensures { result ≡ met_as (λ _. free gauges.now) (placeable n cell gauges.now) }
 {
     formed(gauges)?;
-    let free = first_not(gauges, |g| !g.is_empty()).ok_or(Refusal::NinthGauge)?;
+    let free = first_not(gauges, &Taken).ok_or(Refusal::NinthGauge)?;
     places::require((1..=n as u64).contains(&cell), Refusal::OffChannel)?;
     Ok(free)
 }
@@ -77,13 +72,10 @@ fn feedable(n: usize, gauges: &[u8]) -> Result<(), Refusal>
 {
     formed(gauges)?;
     places::require(
-        first_not(gauges, |g| g.cell <= n as i64).is_none(),
+        first_not(gauges, &Stands(n as i64)).is_none(),
         Refusal::OffChannel,
     )?;
-    places::require(
-        first_not(gauges, |g| g.fed < gauge::MOST_FED).is_none(),
-        Refusal::GaugeFull,
-    )
+    places::require(first_not(gauges, &Room).is_none(), Refusal::GaugeFull)
 }
 
 // Before they are read into so many numbers: 12, 14, then 15.

@@ -11,5 +11,5 @@ returns-then-gauges-ne-LENGTH c = form_short c.args.gauges.now c.if-gauges-ne-LE
 
 pub returns : goal.returns
 returns c =
-    let passes = none_is right _ _ _ (c.first_not.ensures right (λ k fine l e. e.1)) c.is_none.ensures in
+    let passes = none_is right _ _ _ c.first_not.ensures c.is_none.ensures in
     c.require.ensures ∙ ap (λ (b : Bool). met (require b GaugesValue)) passes ∙ form_long c.args.gauges.now c.if-gauges-ne-LENGTH.false
