@@ -50,6 +50,10 @@ module _ (n X T wanted : ℕ) (h e u damping : Row) where
   abbrev after_v : Row → Outcome Channel
   after_v v = fluxes n X h e u >>= after_q v
 
+  -- what V, Q and F are worked out from
+  pub given : Makeable n X T wanted h e u damping → Given n X h u
+  given m = record { bed = bed_of n X T wanted 0 h e u m.counts m.cells; u_long = omega (arith, m.cells.u_long) }
+
   moving : Makeable n X T wanted h e u damping → Moving n X e u
   moving m =
       let c = m.cells in
@@ -60,28 +64,24 @@ module _ (n X T wanted : ℕ) (h e u damping : Row) where
         velocities = record { least = c.least; most = c.most; long = omega (arith, c.u_long); small = c.u_small };
       }
 
+  pub damped : Makeable n X T wanted h e u damping → Damped n X e u damping
+  damped m =
+      let c = m.cells in
+      record { moving = moving m; dampings = record { least = c.least; most = c.most; long = omega (arith, m.damped.long); small = m.damped.small } }
+
+  pub ready : Makeable n X T wanted h e u damping → Ready n X h e u
+  ready m =
+      let c = m.cells in
+      record { moving = moving m; depths = record { least = c.least; most = c.most; long = omega (arith, c.h_long); small = c.h_small } }
+
   -- the checks refuse
   pub stops_checked : (r : Refusal) → Err r ≡ met checks → Err r ≡ met_as (made_of n) made
   stops_checked r p = as_err (made_of n) made r (err_first checks _ r p ∙ ap met (sym (make_is n X T wanted h e u damping)))
 
   -- they pass
   module _ (passed : Ok tt ≡ met checks) where
-    makeable : Makeable n X T wanted h e u damping
+    pub makeable : Makeable n X T wanted h e u damping
     makeable = makeable_of n X T wanted h e u damping (met_number checks tt passed)
-
-    -- what V, Q and F are worked out from
-    pub given : Given n X h u
-    given = record { bed = bed_of n X T wanted 0 h e u makeable.counts makeable.cells; u_long = omega (arith, makeable.cells.u_long) }
-
-    pub damped : Damped n X e u damping
-    damped =
-        let c = makeable.cells in
-        record { moving = moving makeable; dampings = record { least = c.least; most = c.most; long = omega (arith, makeable.damped.long); small = makeable.damped.small } }
-
-    pub ready : Ready n X h e u
-    ready =
-        let c = makeable.cells in
-        record { moving = moving makeable; depths = record { least = c.least; most = c.most; long = omega (arith, c.h_long); small = c.h_small } }
 
     after_checks : made ≡ (reduced_velocities n X h u >>= after_v)
     unfolding worked

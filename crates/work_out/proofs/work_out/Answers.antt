@@ -1,7 +1,7 @@
 -- `work_out::work_out` meets its contract: its ways out are the rule's. Assumes nothing.
 use mathlib.Core.Path.{◌∙◌}
 use Rattle.places.specs.Met.{from_err}
-use Rattle.work_out.specs.Made.{given, damped, ready, stops_checked, stops_7, stops_9, all_kept}
+use Rattle.work_out.specs.Made.{given, damped, ready, makeable, stops_checked, stops_7, stops_9, all_kept}
 use Rattle.work_out.proofs.work_out.Goals as goal
 
 pub returns-in_err-check_made : goal.returns-in_err-check_made
@@ -12,7 +12,7 @@ returns-in_err-check_made c =
 pub reduced_velocities-requires : goal.reduced_velocities-requires
 reduced_velocities-requires c =
     let a = c.args in
-    given a.c.n a.c.x a.c.t a.c.wanted a.h.now a.e.now a.u.now a.damping.now c.in_ok-check_made.ensures
+    given a.c.n a.c.x a.c.t a.c.wanted a.h.now a.e.now a.u.now a.damping.now (makeable _ _ _ _ _ _ _ _ c.in_ok-check_made.ensures)
 
 -- V is refused
 pub returns-in_err-v : goal.returns-in_err-v
@@ -23,7 +23,7 @@ returns-in_err-v c =
 pub fluxes-requires : goal.fluxes-requires
 fluxes-requires c =
     let a = c.args in
-    ready a.c.n a.c.x a.c.t a.c.wanted a.h.now a.e.now a.u.now a.damping.now c.in_ok-check_made.ensures
+    ready a.c.n a.c.x a.c.t a.c.wanted a.h.now a.e.now a.u.now a.damping.now (makeable _ _ _ _ _ _ _ _ c.in_ok-check_made.ensures)
 
 -- Q is refused, past V
 pub returns-in_err-q : goal.returns-in_err-q
@@ -35,7 +35,7 @@ returns-in_err-q c =
 pub accelerations-f-requires : goal.accelerations-f-requires
 accelerations-f-requires c =
     let a = c.args in
-    damped a.c.n a.c.x a.c.t a.c.wanted a.h.now a.e.now a.u.now a.damping.now c.in_ok-check_made.ensures
+    damped a.c.n a.c.x a.c.t a.c.wanted a.h.now a.e.now a.u.now a.damping.now (makeable _ _ _ _ _ _ _ _ c.in_ok-check_made.ensures)
 
 -- past V and Q
 pub returns : goal.returns
