@@ -1,2 +1,3 @@
+pub mod Passes
 pub mod Chunks
 pub mod Bounds

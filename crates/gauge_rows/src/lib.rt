@@ -9,6 +9,7 @@ ghost use Rattle.gauge.specs.declared.Gauge.{Gauge};
 ghost use Rattle.gauge.specs.Gauge.{right};
 ghost use Rattle.std.specs.Int.Signed.{le_z};
 ghost use Rattle.gauge.specs.State.{state_numbers, numbers, gauge_at, gauges_in, flat, taken, stands_in, has_room, fed_from, reading};
+ghost use Rattle.gauge_rows.specs.Passes.{Tells};
 ghost use Rattle.places.specs.Lowest.{found};
 ghost use Rattle.little.specs.Written.{written};
 ghost use Rattle.gauge_rows.specs.Bounds.{Feeds, Reads};
@@ -43,8 +44,8 @@ fn put_reading(row: &mut [i64], at: usize, g: Gauge)
     row[at..at + 6].copy_from_slice(&[g.cell, g.fed, g.crossings, g.waves(), g.largest, g.sum]);
 }
 
-// What is asked of the gauge at each place. A closure in its place would have to be one that may be called, and would answer
-// what it pleases; a test answers what its kind says, so that the lowest place is settled.
+// What is asked of the gauge at each place. A closure has to be one that may be called, and answers what it pleases
+// (`first_not`); a test answers what its kind says, so that the lowest place is settled (`first_failing`).
 pub trait Test {
     // What passes.
     ghost passes: { Self → Gauge → Bool };
@@ -103,14 +104,28 @@ impl Test for Room {
     }
 }
 
-// The lowest place, counted from 1, whose gauge does not pass.
-pub fn first_not<T: Test>(row: &[i64], test: &T) -> Option<u64>
+// The lowest place, counted from 1, whose gauge fails a test.
+pub fn first_failing<T: Test>(row: &[i64], test: &T) -> Option<u64>
     requires { length row.now ≡ state_numbers }
     ensures { result ≡ found (lowest (T.passes test.now) (gauges_in row.now)) }
 {
     let mut place = None;
     for k in 0..8 {
         place = places::lower(place, test.passes(gauge_at(row, k)), k);
+    }
+    place
+}
+
+// The lowest place, counted from 1, whose gauge does not pass, by any closure that may be called. Where what it answers of the
+// gauges of the row is settled, so is the place; else it may answer otherwise each time, and no `Test` says what it does.
+pub fn first_not<F: Fn(Gauge) -> bool>(row: &[i64], passes: F) -> Option<u64>
+    requires long { length row.now ≡ state_numbers }
+    requires callable { F.IsAlwaysCallable passes }
+    ensures { (p : Gauge → Bool) → Tells (F.post passes) p row.now → result ≡ found (lowest p (gauges_in row.now)) }
+{
+    let mut place = None;
+    for k in 0..8 {
+        place = places::lower(place, passes(gauge_at(row, k)), k);
     }
     place
 }
@@ -143,5 +158,43 @@ pub fn read(row: &[i64], out: &mut [i64])
 {
     for k in 0..8 {
         put_reading(out, 6 * k, gauge_at(row, k));
+    }
+}
+
+#[cfg(test)]
+mod tests {
+    use super::*;
+    use std::test::Fail;
+
+    // Gauges stand in the third place and in the last, at cells 7 and 9. A failure tells among how many cells they were looked for.
+    #[test]
+    fn searched_by_closures() -> Result<(), Fail> {
+        let mut row = [0; 64];
+        let third = Gauge {
+            cell: 7,
+            ..Gauge::default()
+        };
+        let last = Gauge {
+            cell: 9,
+            ..Gauge::default()
+        };
+        put_gauge(&mut row, 16, third);
+        put_gauge(&mut row, 56, last);
+        for (n, place) in [
+            (9, None),
+            (8, Some(8)),
+            (7, Some(8)),
+            (6, Some(3)),
+            (0, Some(3)),
+            (-1, Some(1)),
+        ] {
+            if first_not(&row, |g| g.cell <= n) != place {
+                Err(n)?;
+            }
+        }
+        if first_not(&row, Gauge::is_empty) != Some(3) {
+            Err("by a method")?;
+        }
+        Ok(())
     }
 }

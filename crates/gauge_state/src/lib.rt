@@ -42,7 +42,7 @@ fn first_not<T: Test>(gauges: &[u8], test: &T) -> Option<u64>
     requires { length gauges.now ≡ state_length }
     ensures { result ≡ found (lowest (T.passes test.now) (gauges_of gauges.now)) }
 {
-    gauge_rows::first_not(&opened(gauges), test)
+    gauge_rows::first_failing(&opened(gauges), test)
 }
 
 // 12, then 14.

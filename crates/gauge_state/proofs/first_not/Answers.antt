@@ -7,4 +7,4 @@ use Rattle.gauge_state.proofs.first_not.Goals as goal
 
 pub returns : goal.returns
 unfolding gauges_of
-returns g c = c.first_not.ensures ∙ ap (λ row. found (lowest (g.T.Test.passes c.args.test.now) (gauges_in row))) c.opened.ensures
+returns g c = c.first_failing.ensures ∙ ap (λ row. found (lowest (g.T.Test.passes c.args.test.now) (gauges_in row))) c.opened.ensures
